@@ -1,10 +1,11 @@
 """A machine of a fleet: it sends each line of standard input to an API, by a token that all machines share.
 
-    lifecrib login --cache redis://cache.example/0 ..        # once, on any machine
-    jobs | CACHE=redis://cache.example/0 API=https://api.example/jobs python3 fleet.py
+    lifecrib login --cache rediss://cache.example/0 ..       # once, on any machine
+    jobs | CACHE=rediss://cache.example/0 API=https://api.example/jobs python3 fleet.py
 
 The command `lifecrib` keeps the token on Redis, and one machine renews it for all. A client that has a secret gives it
-in OAUTH2_CLIENT_SECRET.
+in OAUTH2_CLIENT_SECRET. A password of Redis goes into OAUTH2_REDIS_PASSWORD, not into CACHE: that becomes an argument
+of the command, which all users of the machine can see. By rediss:// it speaks TLS to Redis.
 """
 import os
 import subprocess

@@ -3,29 +3,33 @@
     ISSUER=https://as.example AUDIENCE=https://api.example/ python3 resource_server.py 8002
     INTROSPECTION_URL=https://as.example/introspect CLIENT_ID=api CLIENT_SECRET=bbb python3 resource_server.py 8002
 
-The first checks JWT access tokens by the issuer's keys, and the second asks the server about each token.
+The first checks JWT access tokens by the issuer's keys, and the second asks the server about each token. With AUDIENCE
+the second, too, takes only tokens whose `aud` names it.
 """
 import json
 import os
 import sys
 import time
-import urllib.request
 import wsgiref.simple_server
 
-from lifecrib import BadAccessToken, BadToken, Client, LifecribError, UncheckedSignature, check_access_token
+from lifecrib import (BadAccessToken, BadKeys, BadToken, Client, LifecribError, Request, UncheckedSignature,
+                      UrllibTransport, check_access_token)
 
 SCOPE = os.environ.get('SCOPE', 'read')
-KEEP_KEYS, ASK_AGAIN = 3600, 60  # seconds
+KEEP_KEYS, ASK_AGAIN, NEVER = 3600, 60, float('-inf')  # seconds
 
 
 class ByIntrospection:
     """Asks the authorization server (RFC 7662)."""
 
-    def __init__(self, url, client_id, secret):
-        self.client = Client(client_id, secret, introspection_url=url)
+    def __init__(self, url, client_id, secret, audience):
+        self.client, self.audience = Client(client_id, secret, introspection_url=url), audience
 
     def __call__(self, token):
-        return self.client.introspect(token)
+        found = self.client.introspect(token)
+        if found.active and self.audience and self.audience not in found.aud:
+            raise BadAccessToken('the token is for another API')
+        return found
 
 
 class ByKeys:
@@ -33,21 +37,29 @@ class ByKeys:
 
     def __init__(self, issuer, audience):
         self.metadata = Client.discover(issuer, audience).metadata
-        self.audience, self.keys, self.asked_at = audience, None, 0
+        if not (self.metadata.jwks_uri or '').startswith('https:'):  # others could put in keys of theirs
+            raise ValueError('the issuer names no https URL of its keys')
+        self.audience, self.send, self.came_at, self.asked_at = audience, UrllibTransport(timeout=10), NEVER, NEVER
+        self.ask_for_keys(0)
 
     def __call__(self, token):
         self.ask_for_keys(KEEP_KEYS)
         try:
             return self.check(token)
-        except BadAccessToken:
-            self.ask_for_keys(ASK_AGAIN)
+        except (BadAccessToken, BadKeys):
+            self.ask_for_keys(0)
             return self.check(token)
 
     def ask_for_keys(self, age):
-        """Asks for the keys, if those that are kept are older."""
-        if self.keys is None or time.monotonic() >= self.asked_at + age:
-            with urllib.request.urlopen(self.metadata.jwks_uri, timeout=10) as reply:
-                self.keys, self.asked_at = json.load(reply), time.monotonic()
+        """Asks for the keys, if those that are kept are older: once in a minute at most, also while none come."""
+        now = time.monotonic()
+        if now >= max(self.came_at + age, self.asked_at + ASK_AGAIN):
+            self.asked_at = now
+            reply = self.send(Request('GET', self.metadata.jwks_uri, (), b''))  # follows no redirect
+            keys = json.loads(reply.body)
+            if reply.status != 200 or 'keys' not in keys:
+                raise OSError('no keys came')
+            self.keys, self.came_at = keys, now
 
     def check(self, token):
         return check_access_token(token, issuer=self.metadata.issuer, audience=self.audience, keys=self.keys)
@@ -55,7 +67,8 @@ class ByKeys:
 
 def checker():
     if 'INTROSPECTION_URL' in os.environ:
-        return ByIntrospection(*(os.environ[it] for it in ('INTROSPECTION_URL', 'CLIENT_ID', 'CLIENT_SECRET')))
+        needed = (os.environ[it] for it in ('INTROSPECTION_URL', 'CLIENT_ID', 'CLIENT_SECRET'))
+        return ByIntrospection(*needed, os.environ.get('AUDIENCE'))
     return ByKeys(os.environ['ISSUER'], os.environ['AUDIENCE'])
 
 

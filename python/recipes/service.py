@@ -3,7 +3,8 @@
     TOKEN_URL=https://as.example/token CLIENT_ID=orders CLIENT_SECRET=bbb \
         AUDIENCE=https://stock.example/ API=https://stock.example/api python3 service.py 8001
 
-It leaves to the other service whether the user may; what checks the token of a caller is resource_server.py.
+It leaves to the other service whether the user may; what checks the token of a caller is resource_server.py. Whoever
+reaches its port gets `/report`.
 """
 import os
 import sys
@@ -50,7 +51,8 @@ def app(environ, start_response):
     try:
         status, body = route(environ.get('HTTP_AUTHORIZATION', '')) if route else ('404 Not Found', b'not here')
     except LifecribError as error:  # also while a keeper waits after a failure
-        status, body = '503 Service Unavailable', str(error).encode()
+        print(error, file=environ['wsgi.errors'])  # it may tell of this client, which is nothing for a caller
+        status, body = '503 Service Unavailable', b'not now'
     start_response(status, [('Content-Type', 'text/plain')])
     return [body]
 

@@ -6,8 +6,8 @@
 BASE is where browsers reach it, through a server that speaks TLS; BASE/back is the registered redirect. Any WSGI
 server can run `app`, in one process with threads: the sessions are in its memory.
 """
+import collections
 import functools
-import http.cookies
 import json
 import os
 import secrets
@@ -22,7 +22,7 @@ BASE, API = os.environ['BASE'], os.environ['API']
 SCOPES = ['openid', *os.environ.get('SCOPES', '').split()]
 COOKIE = '__Host-session'
 MOST_LOGINS = 10_000  # that have begun and not ended
-LOGINS, SESSIONS = {}, {}
+LOGINS, SESSIONS = collections.OrderedDict(), {}
 PAGE = b"""<!doctype html><title>Orders</title><a href="/login">Sign in</a><pre id="orders"></pre>
 <script>fetch('/orders').then(it => it.text()).then(it => { orders.textContent = it })</script>"""
 
@@ -38,12 +38,13 @@ def client():
                            redirect=BASE + '/back')
 
 
-def login(_name, _query):
+def login(name, _query):
     """Sends the browser to the authorization server. The login is kept here, under the name in the cookie."""
+    SESSIONS.pop(name, None)  # which the cookie names no more
     begun, name = client().login(scopes=SCOPES), secrets.token_urlsafe()
     LOGINS[name] = begun.to_json()
     if len(LOGINS) > MOST_LOGINS:
-        LOGINS.pop(next(iter(LOGINS)), None)  # the oldest
+        LOGINS.popitem(last=False)  # the oldest
     return redirect(begun.url, name)
 
 
@@ -97,18 +98,24 @@ ROUTES = {('GET', '/'): lambda *_: ('200 OK', [('Content-Type', 'text/html')], P
 
 
 def app(environ, start_response):
-    cookie = http.cookies.SimpleCookie(environ.get('HTTP_COOKIE', '')).get(COOKIE)
+    cookies = (it.strip().partition('=') for it in environ.get('HTTP_COOKIE', '').split(';'))  # also those of others
+    name = next((value for cookie, _, value in cookies if cookie == COOKIE), '')
     route = ROUTES.get((environ['REQUEST_METHOD'], environ['PATH_INFO']))
     try:
-        status, headers, body = (route(cookie.value if cookie else '', environ.get('QUERY_STRING', ''))
-                                 if route else answer('404 Not Found', 'not here'))
+        status, headers, body = (route(name, environ.get('QUERY_STRING', '')) if route
+                                 else answer('404 Not Found', 'not here'))
     except LifecribError as error:  # whose text has no token and no secret
         status, headers, body = answer('502 Bad Gateway', str(error))
     start_response(status, headers)
     return [body]
 
 
+class Handler(wsgiref.simple_server.WSGIRequestHandler):
+    def log_message(self, *_):
+        """Writes nothing: the path of a redirect has the code."""
+
+
 if __name__ == '__main__':
-    with wsgiref.simple_server.make_server('127.0.0.1', int(sys.argv[1]), app) as server:
+    with wsgiref.simple_server.make_server('127.0.0.1', int(sys.argv[1]), app, handler_class=Handler) as server:
         print('http://127.0.0.1:%d' % server.server_port, flush=True)
         server.serve_forever()

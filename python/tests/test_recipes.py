@@ -1,6 +1,5 @@
 """The programs of recipes run as they are, each at a server on this machine that speaks TLS."""
 import importlib.util
-import io
 import json
 import os
 import shutil
@@ -67,7 +66,8 @@ class Site:
 
     def introspect(self, _headers):
         is_known = self.asked['token'] in ('reads', 'writes')
-        return 200, {'active': True, 'scope': self.asked['token'][:-1], 'sub': 'ann'} if is_known else {'active': False}
+        found = {'active': True, 'scope': self.asked['token'][:-1], 'sub': 'ann', 'aud': ['https://api.example/']}
+        return 200, found if is_known else {'active': False}
 
     def keys(self, _headers):
         return 200, {'keys': [self.signer.key]}
@@ -132,9 +132,9 @@ class Case(unittest.TestCase):
 
     def serve(self, name, **settings):
         """The address at which a program serves."""
-        run = self.start(name, '0', **settings)
-        found = run.stdout.readline().strip()
-        self.assertTrue(found, found or run.stderr.read())
+        self.server = self.start(name, '0', **settings)
+        found = self.server.stdout.readline().strip()
+        self.assertTrue(found, found or self.server.stderr.read())
         return found
 
     def came_back(self, url, redirect):
@@ -184,6 +184,22 @@ class WebBackend(Case):
         self.assertEqual((status, text), (502, 'redirect has another state'))
         self.assertEqual(visit(self.base + '/back' + back)[0], 403)
         self.assertEqual(self.site.asks(), [])
+
+    def test_cookies_of_others(self):
+        cookie, _ = self.signed_in()
+        for odd in ('a/b=1; %s', '%s; a@b=1', 'a={"b": 1}; %s; c', 'x%s=1; %%s' % cookie.partition('=')[0]):
+            self.assertEqual(visit(self.base + '/orders', Cookie=odd % cookie)[0], 200, odd)
+        self.assertEqual(visit(self.base + '/orders', Cookie='a; x' + cookie)[0], 401)
+
+    def test_a_new_login_ends_the_session(self):
+        cookie, _ = self.signed_in()
+        self.assertEqual(visit(self.base + '/login', Cookie=cookie)[0], 303)
+        self.assertEqual(visit(self.base + '/orders', Cookie=cookie)[0], 401)
+
+    def test_its_log_has_no_code(self):
+        self.signed_in()
+        self.server.kill()
+        self.assertNotIn('code=c', self.server.communicate()[1])
 
     def test_a_logout(self):
         cookie, _ = self.signed_in()
@@ -277,7 +293,7 @@ class Service(Case):
 
     def test_a_server_that_is_down(self):
         self.site.refused['/token'] = 500
-        self.assertEqual(visit(self.base + '/report')[0], 503)
+        self.assertEqual(visit(self.base + '/report')[::2], (503, 'not now'))
         self.assertEqual(visit(self.base + '/report')[0], 503)
         self.assertEqual(self.site.asks(), ['client_credentials'])  # the second call waits
 
@@ -297,6 +313,11 @@ class ResourceServer(Case):
         self.site.refused['/introspect'] = 500
         self.check(base, ('Bearer reads', 503, None))
 
+    def test_the_audience_by_introspection(self):
+        for audience, status in (('https://api.example/', 200), ('https://other.example/', 401)):
+            base = self.serve('resource_server.py', AUDIENCE=audience)
+            self.check(base, ('Bearer reads', status, None if status == 200 else 'Bearer error="invalid_token"'))
+
     def test_by_keys(self):
         base = self.serve('resource_server.py', without=['INTROSPECTION_URL'], AUDIENCE='https://api.example/')
         now = int(time.time())
@@ -312,27 +333,61 @@ class ResourceServer(Case):
                    (token(scope='write'), 403, 'Bearer error="insufficient_scope", scope="read"'))
         self.assertEqual([path for _, path, _, _ in self.site.seen].count('/keys'), 1)
 
-    def test_a_new_key(self):
+    def by_keys(self, keys_of, jwks_uri='https://as.example/keys'):
+        """The check of a program whose issuer's keys come so."""
         spec = importlib.util.spec_from_file_location('resource_server', os.path.join(RECIPES, 'resource_server.py'))
         module = importlib.util.module_from_spec(spec)
         spec.loader.exec_module(module)
+        with mock.patch.object(module.Client, 'discover') as discover, \
+                mock.patch.object(module, 'UrllibTransport', lambda **_: keys_of):
+            discover.return_value.metadata = lifecrib.Metadata('https://as.example', jwks_uri=jwks_uri)
+            return module.ByKeys('https://as.example', 'https://api.example/')
+
+    def test_keys_that_others_could_change(self):
+        for url in ('http://as.example/keys', 'file:///keys', None):
+            with self.assertRaises(ValueError):
+                self.by_keys(None, url)
+        for status, body in ((302, b'{"keys": []}'), (200, b'{}'), (200, b'[]')):
+            with self.assertRaises(OSError):
+                self.by_keys(lambda _: lifecrib.Reply(status, None, body))
+
+    def test_keys_that_do_not_come(self):
+        replies = [lifecrib.Reply(200, None, json.dumps({'keys': [signer('k1').key]}).encode())]
+        asked = []
+
+        def keys_of(request):
+            asked.append(request)
+            return replies.pop() if replies else lifecrib.Reply(503, None, b'{}')
+        check, now = self.by_keys(keys_of), int(time.time())
+        claims = {'iss': 'https://as.example', 'sub': 'ann', 'aud': 'https://api.example/', 'exp': now + 60, 'iat': now,
+                  'client_id': 'aaa', 'jti': '1', 'scope': 'read'}
+        good, bad = signer('k1').token('at+jwt', **claims), signer('k2').token('at+jwt', **claims)
+        for passed, seen in ((0, 1), (61, 2), (3601, 3)):
+            check.asked_at -= passed
+            check.came_at -= passed
+            for token in (bad, bad, good, bad):
+                try:
+                    self.assertTrue(check(token).active)
+                except (OSError, lifecrib.BadAccessToken):
+                    pass
+            self.assertTrue(check(good).active)
+            self.assertEqual(len(asked), seen)
+
+    def test_a_new_key(self):
         issuer, audience, now = 'https://as.example', 'https://api.example/', int(time.time())
         claims = {'iss': issuer, 'sub': 'ann', 'aud': audience, 'exp': now + 60, 'iat': now, 'client_id': 'aaa',
                   'jti': '1', 'scope': 'read'}
         tokens = [signer(kid).token('at+jwt', **claims) for kid in ('k1', 'k2')]
-        sets = [io.BytesIO(json.dumps({'keys': [signer(kid).key]}).encode()) for kid in ('k1', 'k2')]
-        with mock.patch.object(module.Client, 'discover') as discover, \
-                mock.patch.object(module.urllib.request, 'urlopen', lambda *_, **__: sets.pop(0)):
-            discover.return_value.metadata = lifecrib.Metadata(issuer, jwks_uri=issuer + '/keys')
-            check = module.ByKeys(issuer, audience)
-            self.assertTrue(check(tokens[0]).active)
-            with self.assertRaises(lifecrib.BadAccessToken):
-                check(tokens[1])
-            self.assertEqual(len(sets), 1)  # they are asked for at most once in a minute
-            check.asked_at -= 61
-            self.assertTrue(check(tokens[1]).active)
-            with self.assertRaises(lifecrib.BadAccessToken):
-                check(tokens[0])
+        sets = [lifecrib.Reply(200, None, json.dumps({'keys': [signer(kid).key]}).encode()) for kid in ('k1', 'k2')]
+        check = self.by_keys(lambda _: sets.pop(0))
+        self.assertTrue(check(tokens[0]).active)
+        with self.assertRaises(lifecrib.BadAccessToken):
+            check(tokens[1])
+        self.assertEqual(len(sets), 1)  # they are asked for at most once in a minute
+        check.asked_at -= 61
+        self.assertTrue(check(tokens[1]).active)
+        with self.assertRaises(lifecrib.BadAccessToken):
+            check(tokens[0])
         self.assertEqual(sets, [])
 
 
