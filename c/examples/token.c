@@ -13,6 +13,7 @@
 
 #define MOST_BYTES (1 << 20) /* of a reply's body */
 #define MOST_SECONDS 30L     /* of an exchange */
+#define MOST_DEPTH 160       /* of a result, which has the reply in it: the library reads one nested 127 deep */
 
 static void stop(const char *why) {
     fprintf(stderr, "token: %s\n", why);
@@ -49,7 +50,8 @@ static json_object *run(json_object *script) {
         status = lifecrib_run((const uint8_t *)given, script_length, (uint8_t *)output, size, &length);
     }
     if (status == LIFECRIB_NO_MEMORY) stop("out of memory");
-    json_tokener *reader = json_tokener_new();
+    json_tokener *reader = json_tokener_new_ex(MOST_DEPTH);
+    if (!reader) stop("out of memory");
     json_object *result = json_tokener_parse_ex(reader, output, (int)length);
     json_tokener_free(reader);
     free(output);
@@ -84,6 +86,15 @@ static json_object *base64_of(const struct body *body) {
     return made;
 }
 
+/* Whether no other machine can read what goes to a URL: it is https, or one of this machine. */
+static int is_private(const char *url) {
+    static const char here[] = "http://127.0.0.1";
+    if (!strncmp(url, "https://", 8)) return 1;
+    if (strncmp(url, here, strlen(here))) return 0;
+    url += strlen(here);
+    return url[strspn(url, ":0123456789")] == '/';
+}
+
 /* Sends a request: the reply as an entry of a script's `replies`. */
 static json_object *reply_to(json_object *request) {
     CURL *curl = curl_easy_init();
@@ -97,7 +108,7 @@ static json_object *reply_to(json_object *request) {
         const char *value = json_object_get_string(json_object_array_get_idx(header, 1));
         char *line = room_of(strlen(name) + strlen(value) + 3);
         sprintf(line, "%s: %s", name, value);
-        lines = curl_slist_append(lines, line);
+        if (!(lines = curl_slist_append(lines, line))) stop("out of memory");
         free(line);
     }
     curl_easy_setopt(curl, CURLOPT_URL, text(request, "url"));
@@ -107,7 +118,8 @@ static json_object *reply_to(json_object *request) {
     curl_easy_setopt(curl, CURLOPT_NOSIGNAL, 1L);
     curl_easy_setopt(curl, CURLOPT_WRITEFUNCTION, take);
     curl_easy_setopt(curl, CURLOPT_WRITEDATA, &body);
-    CURLcode fault = curl_easy_perform(curl); /* which follows no redirect */
+    CURLcode fault = CURLE_UNSUPPORTED_PROTOCOL;
+    if (is_private(text(request, "url"))) fault = curl_easy_perform(curl); /* which follows no redirect */
     if (fault) {
         fprintf(stderr, "token: %s\n", curl_easy_strerror(fault));
         json_object_object_add(reply, "fail", json_object_new_boolean(1));

@@ -96,11 +96,14 @@ var client = http.Client{
 	CheckRedirect: func(*http.Request, []*http.Request) error { return http.ErrUseLastResponse },
 }
 
-// Sends a request.
+// Sends a request, if no other machine can read it: its URL is https, or one of this machine.
 func send(it *request) (reply, error) {
 	made, err := http.NewRequest(it.Method, it.URL, strings.NewReader(it.Body))
 	if err != nil {
 		return nil, err
+	}
+	if to := made.URL; to.Scheme != "https" && (to.Scheme != "http" || to.Hostname() != "127.0.0.1") {
+		return nil, errors.New("not sent: the URL is not https")
 	}
 	for _, header := range it.Headers {
 		made.Header.Add(header[0], header[1])

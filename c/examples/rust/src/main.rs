@@ -76,9 +76,21 @@ fn base64(bytes: &[u8]) -> String {
     bytes.chunks(3).flat_map(digits_of).collect()
 }
 
+/// Whether no other machine can read what goes to a URL: it is https, or one of this machine.
+fn is_private(url: &str) -> bool {
+    let is_port = |it: char| it == ':' || it.is_ascii_digit();
+    match url.strip_prefix("http://127.0.0.1") {
+        Some(rest) => rest.trim_start_matches(is_port).starts_with('/'),
+        None => url.starts_with("https://"),
+    }
+}
+
 /// Sends a request: the reply as an entry of a script's `replies`.
 fn reply_to(request: &Value) -> Result<Value, String> {
     let text = |value: &Value| value.as_str().unwrap_or_default().to_string();
+    if !is_private(&text(&request["url"])) {
+        return Err("not sent: the URL is not https".into());
+    }
     let agent = ureq::AgentBuilder::new()
         .redirects(0)
         .timeout(MOST_TIME)
