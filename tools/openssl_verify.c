@@ -1,10 +1,12 @@
 /* Checks one signature so often by OpenSSL, for tools/bench-signatures. Arguments: the files of the public key (PEM), the message and the
-   signature; the digest; 1 for PSS with a salt as long as the digest, else 0; how often. Exit status 0 if each check succeeds. */
+   signature; the digest, or - for Ed25519; 1 for PSS with a salt as long as the digest, else 0; how often. Exit status 0 if each check
+   succeeds. */
 #include <openssl/evp.h>
 #include <openssl/pem.h>
 #include <openssl/rsa.h>
 #include <stdio.h>
 #include <stdlib.h>
+#include <string.h>
 
 static size_t read_file(const char *path, unsigned char *room, size_t most)
 {
@@ -36,10 +38,11 @@ int main(int count, char **arguments)
         return 2;
     FILE *file = fopen(arguments[1], "rb");
     EVP_PKEY *key = file ? PEM_read_PUBKEY(file, NULL, NULL, NULL) : NULL;
-    const EVP_MD *digest = EVP_get_digestbyname(arguments[4]);
+    int has_digest = strcmp(arguments[4], "-") != 0;
+    const EVP_MD *digest = has_digest ? EVP_get_digestbyname(arguments[4]) : NULL;
     size_t message_length = read_file(arguments[2], message, sizeof message);
     size_t signature_length = read_file(arguments[3], signature, sizeof signature);
-    if (!key || !digest)
+    if (!key || (has_digest && !digest))
         return 2;
     for (long left = atol(arguments[6]); left > 0; left--)
         if (!verify(key, digest, arguments[5][0] == '1', message, message_length, signature, signature_length))

@@ -1,3 +1,10 @@
+pub mod Certificates
 pub mod Constants
+pub mod CurvePoints
+pub mod Forms
+pub mod JacobianSums
+pub mod LastComparison
+pub mod Points
+pub mod Primes
 pub mod Residues
 pub mod Sums

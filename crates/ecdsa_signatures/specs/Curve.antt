@@ -83,24 +83,35 @@ abbrev pub third : ℕ → ℕ → ℕ → ℕ → ℕ → Point
 third p slope x1 y1 x2 =
     Affine (third_x p slope x1 x2) (third_y p slope x1 y1 (third_x p slope x1 x2))
 
--- P + Q modulo p: with the point at infinity (rules 1 and 2), of a point and its negative (rule 3), of
--- points with different x (rule 4), of a point and itself (rule 5)
+-- P + Q modulo p. With the point at infinity it is the other point (rules 1 and 2). Two points with
+-- different x are added by the chord (rule 4), and a point to itself by the tangent (rule 5), unless its y
+-- is 0 and it is its own negative. Two other points of a curve with the same x are each other's negative
+-- (rule 3), since the equation gives y up to its sign. `proofs/CurvePoints` proves that, and that sums of
+-- points of a curve are points of the curve.
 unfoldable pub sum : ℕ → Point → Point → Point
 sum p Infinity q = q
 sum p (Affine x1 y1) Infinity = Affine x1 y1
 sum p (Affine x1 y1) (Affine x2 y2) =
     if nat_eq x1 x2
-    then (if nat_eq ((y1 + y2) % p) 0 then Infinity else third p (tangent p x1 y1) x1 y1 x2)
+    then (if nat_eq y1 y2 then (if nat_eq ((y1 + y2) % p) 0 then Infinity else third p (tangent p x1 y1) x1 y1 x2) else Infinity)
     else third p (chord p x1 y1 x2 y2) x1 y1 x2
 
--- k P for a k of so many bits, by doubling and adding: 2 (k / 2) P, and once more P if k is odd. The
--- order of the sums is that of the code, since that a sum does not depend on it is not proved here.
-unfoldable pub multiple_of : ℕ → ℕ → ℕ → Point → Point
-multiple_of p zero k point = Infinity
-multiple_of p (suc bits) k point =
-    let half = multiple_of p bits (k / 2) point in
-    if nat_eq (k % 2) 1 then sum p (sum p half half) point else sum p half half
+-- what is left of u P + v Q above 2 ((u / 2) P + (v / 2) Q): P if u alone is odd, Q if v alone is, P + Q if
+-- both are, and the point at infinity if neither is
+unfoldable pub odd_part : ℕ → ℕ → ℕ → Point → Point → Point
+odd_part p u v a b =
+    if nat_eq (u % 2) 1
+    then (if nat_eq (v % 2) 1 then sum p a b else a)
+    else (if nat_eq (v % 2) 1 then b else Infinity)
 
--- k P, for k with as many bits as a coordinate (SEC 1, 2.2.1)
-abbrev pub multiple : EllipticCurve → ℕ → Point → Point
-multiple c k point = multiple_of (prime c) (8 * coordinate_size c) k point
+-- u P + v Q for u and v of so many bits, by doubling and adding for both at once. The order of the sums is
+-- that of the code, since that a sum does not depend on it is not proved here.
+unfoldable pub multiples_of : ℕ → ℕ → ℕ → ℕ → Point → Point → Point
+multiples_of p zero u v a b = Infinity
+multiples_of p (suc bits) u v a b =
+    let half = multiples_of p bits (u / 2) (v / 2) a b in
+    sum p (sum p half half) (odd_part p u v a b)
+
+-- u P + v Q, for u and v with as many bits as a coordinate (SEC 1, 2.2.1)
+abbrev pub multiples : EllipticCurve → ℕ → ℕ → Point → Point → Point
+multiples c u v a b = multiples_of (prime c) (8 * coordinate_size c) u v a b

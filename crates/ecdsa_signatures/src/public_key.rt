@@ -9,8 +9,9 @@ ghost use Rattle.ecdsa_signatures.specs.private.Coordinates.{value, point_of, Is
 
 use crate::curve::{EllipticCurve, LIMBS, OCTETS};
 use crate::field::is_below_prime;
+use crate::jacobian::{has_x, multiples};
 use crate::key_error::EcdsaKeyError;
-use crate::point::{AffinePoint, base_point, has_x, is_on_curve, multiple, sum};
+use crate::point::{AffinePoint, base_point, is_on_curve};
 use crate::scalar::{invert, is_in_range, times};
 use modular_arithmetic::number;
 use sha2::{Digest, Sha256, Sha384};
@@ -95,7 +96,8 @@ fn is_match(
     s: &[u64; LIMBS],
     key: &AffinePoint,
 ) -> bool
-    requires { IsReduced curve (Some key.now) }
+    requires r { value curve r.now < order curve }
+    requires key { IsReduced curve (Some key.now) }
     ensures { IsTrue result ↔ HasX (order curve) (found_point curve (value curve e.now)
         (value curve r.now) (value curve s.now) (point_of curve (Some key.now)))
         (value curve r.now) }
@@ -103,9 +105,8 @@ fn is_match(
     let inverse = invert(curve, s);
     let u = times(curve, e, &inverse);
     let v = times(curve, r, &inverse);
-    let generated = multiple(curve, &u, &Some(base_point(curve)));
-    let multiplied = multiple(curve, &v, &Some(*key));
-    has_x(curve, &sum(curve, &generated, &multiplied), r)
+    let total = multiples(curve, &u, &v, &base_point(curve), key);
+    has_x(curve, &total, r)
 }
 
 impl EcdsaPublicKey {

@@ -1,4 +1,5 @@
 pub mod Choices
 pub mod Constants
+pub mod Forms
 pub mod Residues
 pub mod Sums

@@ -4,8 +4,9 @@ ghost use Rattle.std.specs.Prelude.{◌≡◌, ℕ, ◌+◌, ◌-◌, ◌*◌, �
 ghost use Rattle.std.specs.Prelude.{Some, None, nat_le, if◌then◌else◌};
 ghost use Rattle.modular_arithmetic.specs.Limbs.{value_below};
 ghost use Rattle.eddsa_signatures.specs.Field.{prime, plus, minus, times, power};
+ghost use Rattle.eddsa_signatures.specs.Form.{held};
 
-use modular_arithmetic::{add_mul, is_bit_set, is_equal, is_less, limb, reduce};
+use modular_arithmetic::{add_mul, is_bit_set, is_equal, is_less, limb, montgomery, reduce};
 use std::marker::Model;
 
 /// The limbs of a number modulo p.
@@ -25,7 +26,7 @@ const SQUARE: [u64; LIMBS] = [1444, 0, 0, 0];
 // What p is multiplied by to be -1 modulo 2 ^ 64.
 const INVERSE: u64 = 0x86bc_a1af_286b_ca1b;
 
-/// A number below p, the lowest limb first.
+/// A number below p in Montgomery's form, the lowest limb first.
 #[derive(Drop)]
 pub(crate) struct Residue {
     limbs: [u64; LIMBS],
@@ -34,7 +35,7 @@ pub(crate) struct Residue {
 impl Model for Residue {
     ghost Value = { ℕ };
 
-    ghost view = { λ r. value_below r.limbs 4 };
+    ghost view = { λ r. held r.limbs };
 
     ghost invariant = { λ r. value_below r.limbs 4 < prime };
 }
@@ -42,7 +43,7 @@ impl Model for Residue {
 // The sum of two numbers modulo p.
 fn reduced_sum(a: &[u64; LIMBS], b: &[u64; LIMBS]) -> Residue
     requires { value_below a.now 4 + value_below b.now 4 < 2 * prime }
-    ensures { result ≡ (value_below a.now 4 + value_below b.now 4) % prime }
+    ensures { result ≡ (held a.now + held b.now) % prime }
 {
     let mut limbs = *a;
     let top = add_mul(&mut limbs, LIMBS, b, 1);
@@ -60,13 +61,39 @@ fn rest(a: &[u64; LIMBS]) -> [u64; LIMBS]
     limbs
 }
 
+// The product of two numbers in Montgomery's form.
+fn form_product(a: &[u64; LIMBS], b: &[u64; LIMBS]) -> [u64; LIMBS]
+    requires { value_below b.now 4 < prime }
+    ensures below { value_below result 4 < prime }
+    ensures held { held result ≡ (held a.now * held b.now) % prime }
+{
+    montgomery(a, b, &PRIME, INVERSE, LIMBS)
+}
+
+// The form of the number that the limbs hold.
+fn form(limbs: &[u64; LIMBS]) -> Residue
+    requires { value_below limbs.now 4 < prime }
+    ensures { result ≡ value_below limbs.now 4 }
+{
+    Residue {
+        limbs: form_product(limbs, &SQUARE),
+    }
+}
+
 impl Residue {
     // The number that these limbs hold.
     pub(crate) fn constant(limbs: [u64; LIMBS]) -> Residue
         requires { value_below limbs 4 < prime }
         ensures { result ≡ value_below limbs 4 }
     {
-        Residue { limbs }
+        form(&limbs)
+    }
+
+    // The number as limbs.
+    fn number(&self) -> [u64; LIMBS]
+        ensures { value_below result 4 ≡ self.now }
+    {
+        form_product(&limb(1), &self.limbs)
     }
 
     // The number that the limbs hold, if it is below p.
@@ -75,7 +102,7 @@ impl Residue {
             else Some (value_below limbs.now 4)) }
     {
         if is_less(limbs, &PRIME, LIMBS) {
-            Some(Residue { limbs: *limbs })
+            Some(form(limbs))
         } else {
             None
         }
@@ -84,7 +111,7 @@ impl Residue {
     pub(crate) fn small(x: u64) -> Residue
         ensures { result ≡ x }
     {
-        Residue { limbs: limb(x) }
+        form(&limb(x))
     }
 
     pub(crate) fn copied(&self) -> Residue
@@ -102,7 +129,7 @@ impl Residue {
     pub(crate) fn is_odd(&self) -> bool
         ensures { IsTrue result ↔ (self.now % 2 ≡ 1) }
     {
-        is_bit_set(&self.limbs, LIMBS, 0)
+        is_bit_set(&self.number(), LIMBS, 0)
     }
 
     pub(crate) fn plus(&self, other: &Residue) -> Residue
@@ -120,15 +147,9 @@ impl Residue {
     pub(crate) fn times(&self, other: &Residue) -> Residue
         ensures { result ≡ times self.now other.now }
     {
-        let product = modular_arithmetic::product(
-            &self.limbs,
-            &other.limbs,
-            &PRIME,
-            &SQUARE,
-            INVERSE,
-            LIMBS,
-        );
-        Residue { limbs: product }
+        Residue {
+            limbs: form_product(&self.limbs, &other.limbs),
+        }
     }
 
     // The number to the power of an exponent of at most so many bits.
@@ -138,7 +159,7 @@ impl Residue {
         ensures { result ≡ power self.now (value_below exponent.now 4) }
     {
         let raised = modular_arithmetic::power(
-            &self.limbs,
+            &self.number(),
             exponent,
             bits,
             &PRIME,
@@ -146,6 +167,6 @@ impl Residue {
             INVERSE,
             LIMBS,
         );
-        Residue { limbs: raised }
+        form(&raised)
     }
 }
