@@ -5,5 +5,7 @@ pub mod Times
 pub mod Left
 pub mod Joined
 pub mod CheckLaws
+pub mod KindLaws
 pub mod RuleLaws
 pub mod TokenRuleLaws
+pub mod HashLaws

@@ -1,5 +1,5 @@
 -- All rules of a token are met exactly where it is as the standard says.
-use Rattle.std.proofs.Common.{◌≡◌, ◌≢◌, ℕ, ℤ, ◌↔◌, List, [], map, Bool, ◌||◌, true, false, true≢false, not, Option, Some, None, IfSome, Result, Ok, Err, IsOk, bytes_eq, codes, if◌then◌else◌, refl, sym}
+use Rattle.std.proofs.Common.{◌≡◌, ◌≢◌, ℕ, ℤ, pos, ◌+ℤ◌, ◌↔◌, List, [], map, Bool, ◌||◌, true, false, true≢false, not, Option, Some, None, IfSome, Result, Ok, Err, IsOk, bytes_eq, codes, if◌then◌else◌, refl, sym}
 use Rattle.std.proofs.lemmas.Slice.Eq.{bytes_eq-Decides}
 use Rattle.std.specs.Char.{to_ascii_lowercase}
 use Rattle.serde_json.specs.Find.{get}
@@ -10,8 +10,9 @@ use Rattle.oauth2_openid.specs.declared.access_token_hash.AccessTokenHash.{Acces
 use Rattle.oauth2_openid.specs.declared.access_token_hash.AccessTokenHash.TheVariants as hash
 use Rattle.oauth2_openid.specs.Claims.{Expectation}
 use Rattle.oauth2_openid.specs.Token.{DecodedToken}
-use Rattle.oauth2_openid.specs.TokenRules.{algorithm_of, half_digest, told_hash, hash_rule, tenant_of, token_checked, IsAlgorithm, IsHashOf, Holds}
+use Rattle.oauth2_openid.specs.TokenRules.{algorithm_of, half_digest, told_hash, hash_rule, tenant_of, rules_checked, token_checked, IsAlgorithm, IsHashOf, RulesHold, Holds}
 use Rattle.oauth2_openid.proofs.CheckLaws.{rule_held, both, absent_held}
+use Rattle.oauth2_openid.proofs.KindLaws.{encoded_held, held_encoded, type_held, held_type, started_held, held_started}
 use Rattle.oauth2_openid.proofs.RuleLaws.{claims_held, held_claims}
 
 -- ---- the algorithm
@@ -63,25 +64,43 @@ held_hash a t (Some told) h = held_half told (half_digest a t) h
 
 -- ---- all
 
-held : (w : Expectation) (a : List ℕ) (n : ℤ) (t : DecodedToken) (v : AccessTokenHash) → token_checked w a n t ≡ Ok v → Holds w a n t
-held w a n t v h =
-    let g = both _ _ _ h in
+pub rules_held : (w : Expectation) (n : ℤ) (t : DecodedToken) → rules_checked w n t ≡ Ok tt → RulesHold w n t
+rules_held w n t h =
+    let header = both _ _ _ h in
+    let later = both _ _ _ header.1 in
+    let g = both _ _ _ header.0 in
     let x = both _ _ _ g.1 in
-    let c = both _ _ _ x.1 in
+    let p = both _ _ _ x.1 in
     record {
       algorithm = algorithm_held w.algorithm t.header.own.algorithm g.0;
       no_extension = absent_held (get (codes "crit") t.header.others) (rule_held _ _ x.0);
-      claims = claims_held w n (tenant_of t.claims.others) t.claims.own c.0;
-      hash = hash_held t.header.own.algorithm a t.claims.own.access_token_hash v c.1;
+      encoded = encoded_held (get (codes "b64") t.header.others) (rule_held _ _ p.0);
+      token_type = type_held (get (codes "typ") t.header.others) (rule_held _ _ p.1);
+      claims = claims_held w n (tenant_of t.claims.others) t.claims.own later.0;
+      started = started_held (n +ℤ pos w.leeway) (get (codes "nbf") t.claims.others) (rule_held _ _ later.1);
     }
 
-all : (w : Expectation) (a : List ℕ) (n : ℤ) (t : DecodedToken) → Holds w a n t → IsOk (token_checked w a n t)
-all w a n t h =
+pub held_rules : (w : Expectation) (n : ℤ) (t : DecodedToken) → RulesHold w n t → rules_checked w n t ≡ Ok tt
+held_rules w n t h =
     rw (
       held_algorithm w.algorithm t.header.own.algorithm h.algorithm,
       h.no_extension,
+      held_encoded (get (codes "b64") t.header.others) h.encoded,
+      held_type (get (codes "typ") t.header.others) h.token_type,
       held_claims w n (tenant_of t.claims.others) t.claims.own h.claims,
-    ) (held_hash t.header.own.algorithm a t.claims.own.access_token_hash h.hash)
+      held_started (n +ℤ pos w.leeway) (get (codes "nbf") t.claims.others) h.started,
+    ) refl
+
+held : (w : Expectation) (a : List ℕ) (n : ℤ) (t : DecodedToken) (v : AccessTokenHash) → token_checked w a n t ≡ Ok v → Holds w a n t
+held w a n t v h =
+    let two = both (rules_checked w n t) (hash_rule t.header.own.algorithm a t.claims.own.access_token_hash) v h in
+    record {
+      rules = rules_held w n t two.0;
+      hash = hash_held t.header.own.algorithm a t.claims.own.access_token_hash v two.1;
+    }
+
+all : (w : Expectation) (a : List ℕ) (n : ℤ) (t : DecodedToken) → Holds w a n t → IsOk (token_checked w a n t)
+all w a n t h = rw (held_rules w n t h.rules) (held_hash t.header.own.algorithm a t.claims.own.access_token_hash h.hash)
 
 some_held : (w : Expectation) (a : List ℕ) (n : ℤ) (t : DecodedToken) (r : Result AccessTokenHash ClaimsError) → token_checked w a n t ≡ r → IsOk r → Holds w a n t
 some_held w a n t (Ok v) e ok = held w a n t v e

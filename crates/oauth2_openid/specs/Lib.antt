@@ -1,6 +1,7 @@
 pub mod Claims
 pub mod Issuers
 pub mod Checks
+pub mod Kinds
 pub mod Rules
 pub mod TokenRules
 pub mod Token

@@ -1,9 +1,9 @@
 -- How a text is read as an ID token (OpenID Connect Core 1.0, section 2; RFC 7515).
-use Rattle.std.specs.Prelude.{ℕ, List, [], ◌∷◌, Option, Some, None, Ok, Err, codes, option_map}
+use Rattle.std.specs.Prelude.{ℕ, nat_le, List, [], ◌∷◌, length, if◌then◌else◌, Option, Some, None, Ok, Err, codes, option_map}
 use Rattle.serde_json.specs.Data.{Data, null, Members, string, array, object}
 use Rattle.serde_json.specs.Find.{get_member}
 use Rattle.oauth2_json.specs.Body.{body_reading}
-use Rattle.oauth2_json.specs.Members.{members_of_object, needed_member, optional_member, others, put_some}
+use Rattle.oauth2_json.specs.Members.{members_of_object, needed_member, optional_member, present_member, others, put_some}
 use Rattle.oauth2_json.specs.Puts.{Row}
 use Rattle.oauth2_json.specs.Reading.{Reading, read_then, ◌⊛◌}
 use Rattle.oauth2_json.specs.Values.{text, texts, text_list, text_items}
@@ -13,14 +13,15 @@ use Rattle.oauth2_openid.specs.declared.read_error.TokenPart.{TokenPart}
 use Rattle.oauth2_openid.specs.declared.read_error.TokenPart.TheVariants as part
 use Rattle.oauth2_openid.specs.Claims.{Claims, claims}
 use Rattle.oauth2_openid.specs.Times.{time}
-use Rattle.oauth2_openid.specs.Token.{Header, header, WithOthers, with_others, DecodedCompactToken, decoded_compact_token, DecodedToken, Parts, three_parts, signed_text, bytes_of, TokenReading, not_three_parts, not_base64, at_fault}
+use Rattle.oauth2_openid.specs.Token.{Header, header, WithOthers, with_others, DecodedCompactToken, decoded_compact_token, DecodedToken, Parts, three_parts, signed_text, bytes_of, TokenReading, too_long, not_three_parts, not_base64, at_fault}
 
--- the header from its members: if both are wrong, `alg` is the fault
+-- the header from its members: if both are wrong, `alg` is the fault. A `kid` has to be a string
+-- (RFC 7515, 4.1.4), so it is not null.
 abbrev pub header_in : Members → Reading (WithOthers Header)
 header_in ms =
     Ok (λ a k o. with_others (header a k) o)
     ⊛ needed_member text (codes "alg") (get_member (codes "alg") ms)
-    ⊛ optional_member text (codes "kid") (get_member (codes "kid") ms)
+    ⊛ present_member text (codes "kid") (get_member (codes "kid") ms)
     ⊛ Ok (object (others (codes "alg" ∷ codes "kid" ∷ []) ms))
 
 -- the header from its JSON value, which has to be an object (RFC 7515, 4)
@@ -121,6 +122,21 @@ parts_reading reading (Some p) =
     token_then (bytes_part part.Signature (bytes_of p.signature)) (λ s.
     Ok (decoded_compact_token (signed_text p) h c s))))
 
+-- the reading of a text that has at most this many bytes; it is an error if the text has more
+abbrev pub within : {M : Type 0} → ℕ → List ℕ → TokenReading M → TokenReading M
+within limit encoded reading = if nat_le (length encoded) limit then reading else Err too_long
+
+-- the token that a text of at most this many bytes holds in compact form (RFC 7515, 7.1), its claims
+-- by this reading, or why it holds none
+abbrev pub text_reading : {C : Type 0} → (Data → Reading C) → ℕ → List ℕ
+    → TokenReading (DecodedCompactToken C)
+text_reading reading limit encoded =
+    within limit encoded (parts_reading reading (three_parts encoded))
+
+-- the greatest number of bytes of a token, if the caller names no other
+abbrev pub usual_limit : ℕ
+usual_limit = 65536
+
 -- the ID token that a text in compact form holds, or why it holds none (RFC 7515, 7.1)
 abbrev pub compact_token_reading : List ℕ → TokenReading DecodedToken
-compact_token_reading encoded = parts_reading claims_reading (three_parts encoded)
+compact_token_reading encoded = text_reading claims_reading usual_limit encoded

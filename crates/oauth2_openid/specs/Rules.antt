@@ -1,6 +1,6 @@
 -- The rules for the claims of an ID token (OpenID Connect Core 1.0, 3.1.3.7). They are tried in the
 -- order of this file, and the first broken rule is the error.
-use Rattle.std.specs.Prelude.{◌≡◌, ℕ, ℤ, pos, ◌+ℤ◌, ◌<ℤ◌, ◌≤ℤ◌, ◌<◌, int_lt, int_le, nat_le, List, ◌∷◌, ◌++◌, length, All, Contains, Bool, false, Option, Some, None, IfSome, IsSome, IsSomeAnd, option_map, Ok, Err, bytes_eq}
+use Rattle.std.specs.Prelude.{◌≡◌, ◌≢◌, ℕ, ℤ, pos, ◌+ℤ◌, ◌<ℤ◌, ◌≤ℤ◌, ◌<◌, int_lt, int_le, nat_le, List, [], ◌∷◌, ◌++◌, length, All, Contains, Bool, false, not, Option, Some, None, IfSome, IsSome, IsSomeAnd, option_map, Ok, Err, bytes_eq}
 use Rattle.sha2.specs.Sha256.{sha256}
 use Rattle.oauth2_types.specs.Digest.{digest_eq}
 use Rattle.oauth2_openid.specs.declared.claims_error.ClaimsError.{ClaimsError}
@@ -20,6 +20,10 @@ is_issuer (per_tenant before after) (Some tenant) issuer =
 abbrev pub issuer_rule : Expectation → Option (List ℕ) → Claims → Verdict ClaimsError
 issuer_rule expected tenant claims =
     rule (is_issuer expected.issuer tenant claims.issuer) errors.OtherIssuer
+
+-- section 2: the claim `sub` names a user, so it is not empty
+abbrev pub subject_rule : Claims → Verdict ClaimsError
+subject_rule claims = rule (not (bytes_eq claims.subject [])) errors.NoSubject
 
 -- 3.1.3.7, 3: the client is one of the audiences
 abbrev pub audience_rule : Expectation → Claims → Verdict ClaimsError
@@ -67,15 +71,17 @@ abbrev pub nonce_rule : Expectation → Claims → Verdict ClaimsError
 nonce_rule expected claims = nonce_of expected.nonce claims.nonce
 
 -- 3.1.3.7, 13, and section 2: if a maximum age was sent, the token says when the user logged in,
--- and the moment `now` is not later than that plus the age and the leeway
+-- that is not after the moment `now` plus the leeway, and `now` is not later than that plus the age
+-- and the leeway
 abbrev pub age_of : ℕ → ℤ → Option ℕ → Option ℤ → Verdict ClaimsError
 age_of leeway now None auth_time = Ok tt
 age_of leeway now (Some greatest_age) None = Err errors.NoAuthTime
 age_of leeway now (Some greatest_age) (Some auth_time) =
-    rule (int_le now (auth_time +ℤ pos greatest_age +ℤ pos leeway)) errors.AuthTooOld
+    rule (int_le auth_time (now +ℤ pos leeway)) errors.AuthLater
+    then rule (int_le now (auth_time +ℤ pos greatest_age +ℤ pos leeway)) errors.AuthTooOld
 
 -- 3.1.3.7, 13, and section 2: if `max_age` was sent, the claim `auth_time` says when the user
--- logged in, and that is not longer ago than `max_age` and the leeway
+-- logged in, and that is neither in the future nor longer ago than `max_age`, by the leeway
 abbrev pub age_rule : Expectation → ℤ → Claims → Verdict ClaimsError
 age_rule expected now claims = age_of expected.leeway now expected.greatest_age claims.auth_time
 
@@ -83,6 +89,7 @@ age_rule expected now claims = age_of expected.leeway now expected.greatest_age 
 abbrev pub claims_checked : Expectation → ℤ → Option (List ℕ) → Claims → Verdict ClaimsError
 claims_checked expected now tenant claims =
     issuer_rule expected tenant claims
+    then subject_rule claims
     then audience_rule expected claims
     then trust_rule expected claims
     then party_rule expected claims
@@ -100,10 +107,16 @@ IsIssuer (one_of named) tenant issuer = Contains named issuer
 IsIssuer (per_tenant before after) tenant issuer =
     IsSomeAnd tenant (λ name. issuer ≡ before ++ name ++ after)
 
+-- the user logged in at this time, which is neither in the future nor longer ago than the age
+pub record IsOfAge (leeway : ℕ) (now : ℤ) (age : ℕ) (time : ℤ) : Type 0 where
+  pub not_later : time ≤ℤ (now +ℤ pos leeway)
+  pub not_too_old : now ≤ℤ (time +ℤ pos age +ℤ pos leeway)
+
 -- the claims of a token that names this tenant meet 3.1.3.7 for a client that expects this, at the
 -- moment `now` (nanoseconds since 1970-01-01T00:00:00Z)
 pub record ClaimsHold (expected : Expectation) (now : ℤ) (tenant : Option (List ℕ)) (claims : Claims) : Type 0 where
   pub issuer : IsIssuer expected.issuer tenant claims.issuer
+  pub subject : claims.subject ≢ []
   pub audience : Contains claims.audience expected.client
   pub trusted : All (Contains (expected.client ∷ expected.other_audiences)) claims.audience
   pub party : IfSome claims.authorized_party (Contains (expected.client ∷ expected.authorized_parties))
@@ -111,4 +124,4 @@ pub record ClaimsHold (expected : Expectation) (now : ℤ) (tenant : Option (Lis
   pub not_expired : now <ℤ (claims.expires_at +ℤ pos expected.leeway)
   pub issued : claims.issued_at ≤ℤ (now +ℤ pos expected.leeway)
   pub nonce : option_map sha256 claims.nonce ≡ option_map sha256 expected.nonce
-  pub age : IfSome expected.greatest_age (λ age. IsSomeAnd claims.auth_time (λ time. now ≤ℤ (time +ℤ pos age +ℤ pos expected.leeway)))
+  pub age : IfSome expected.greatest_age (λ age. IsSomeAnd claims.auth_time (IsOfAge expected.leeway now age))

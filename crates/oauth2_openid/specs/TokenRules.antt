@@ -1,6 +1,6 @@
 -- The rules for the header and for the hash of the access token (OpenID Connect Core 1.0, 3.1.3.6
--- to 3.1.3.8; RFC 7515, 4.1.11), and all rules for a token together.
-use Rattle.std.specs.Prelude.{◌≡◌, ◌≢◌, ℕ, ℤ, List, [], ◌∷◌, map, take, Bool, not, ◌||◌, if◌then◌else◌, Option, Some, None, is_some, option_and_then, IfSome, Result, Ok, Err, bytes_eq, codes}
+-- to 3.1.3.8; RFC 7515, 4.1.11; RFC 7797, 7; RFC 8725, 3.11), and all rules for a token together.
+use Rattle.std.specs.Prelude.{◌≡◌, ◌≢◌, ℕ, ℤ, pos, ◌+ℤ◌, List, [], ◌∷◌, map, take, Bool, not, ◌||◌, if◌then◌else◌, Option, Some, None, is_some, option_and_then, IfSome, Result, Ok, Err, bytes_eq, codes}
 use Rattle.std.specs.Char.{to_ascii_lowercase}
 use Rattle.serde_json.specs.Data.{Data}
 use Rattle.serde_json.specs.Find.{get, as_str}
@@ -13,6 +13,7 @@ use Rattle.oauth2_openid.specs.declared.access_token_hash.AccessTokenHash.{Acces
 use Rattle.oauth2_openid.specs.declared.access_token_hash.AccessTokenHash.TheVariants as hash
 use Rattle.oauth2_openid.specs.Claims.{Expectation}
 use Rattle.oauth2_openid.specs.Checks.{Verdict, rule, ◌then◌, is_among}
+use Rattle.oauth2_openid.specs.Kinds.{takes_plain, is_encoded, has_started, NamesNoOther, IsEncoded, HasStarted}
 use Rattle.oauth2_openid.specs.Rules.{claims_checked, ClaimsHold}
 use Rattle.oauth2_openid.specs.Token.{Header, WithOthers, DecodedToken}
 
@@ -37,6 +38,20 @@ algorithm_rule expected header = algorithm_of expected.algorithm header.algorith
 abbrev pub critical_rule : WithOthers Header → Verdict ClaimsError
 critical_rule header =
     rule (not (is_some (get (codes "crit") header.others))) errors.CriticalExtension
+
+-- RFC 7797, 7: the header's `b64` does not say that the payload is not encoded
+abbrev pub payload_rule : WithOthers Header → Verdict ClaimsError
+payload_rule header = rule (is_encoded (get (codes "b64") header.others)) errors.UnencodedPayload
+
+-- RFC 8725, 3.11 and 3.12: the header's `typ` names no other kind of token
+abbrev pub type_rule : WithOthers Header → Verdict ClaimsError
+type_rule header = rule (takes_plain (get (codes "typ") header.others)) errors.OtherType
+
+-- RFC 7519, 4.1.5: the claim `nbf` is not after the moment `now` plus the leeway
+abbrev pub start_rule : Expectation → ℤ → Data → Verdict ClaimsError
+start_rule expected now other_claims =
+    rule (has_started (now +ℤ pos expected.leeway) (get (codes "nbf") other_claims))
+    errors.NotYetValid
 
 -- the algorithms whose hash is SHA-256 (RFC 7518, 3.1)
 abbrev pub sha256_algorithms : List (List ℕ)
@@ -78,13 +93,26 @@ hash_rule algorithm access_token (Some told) = told_hash told (half_digest algor
 abbrev pub tenant_of : Data → Option (List ℕ)
 tenant_of other_claims = option_and_then as_str (get (codes "tid") other_claims)
 
+-- the rules for the header, in this order: the first broken rule is the error
+abbrev pub header_checked : Expectation → WithOthers Header → Verdict ClaimsError
+header_checked expected header =
+    algorithm_rule expected header.own
+    then critical_rule header
+    then payload_rule header
+    then type_rule header
+
+-- all rules except that for the hash, in this order: the first broken rule is the error
+abbrev pub rules_checked : Expectation → ℤ → DecodedToken → Verdict ClaimsError
+rules_checked expected now token =
+    header_checked expected token.header
+    then claims_checked expected now (tenant_of token.claims.others) token.claims.own
+    then start_rule expected now token.claims.others
+
 -- all rules for a token, in this order: the first broken rule is the error
 abbrev pub token_checked : Expectation → List ℕ → ℤ → DecodedToken
     → Result AccessTokenHash ClaimsError
 token_checked expected access_token now token =
-    algorithm_rule expected token.header.own
-    then critical_rule token.header
-    then claims_checked expected now (tenant_of token.claims.others) token.claims.own
+    rules_checked expected now token
     then hash_rule token.header.own.algorithm access_token token.claims.own.access_token_hash
 
 -- ---- the rules as one proposition: all of them hold
@@ -100,10 +128,18 @@ IsHashOf algorithm access_token told =
     IfSome told
     (λ hash. IfSome (half_digest algorithm access_token) (λ half. hash ≡ base64url half))
 
--- the token meets 3.1.3.7 and 3.1.3.8, except for its signature, for a client that expects this and
--- got this access token, at the moment `now` (nanoseconds since 1970-01-01T00:00:00Z)
-pub record Holds (expected : Expectation) (access_token : List ℕ) (now : ℤ) (token : DecodedToken) : Type 0 where
+-- the token meets 3.1.3.7, and the rules for the kinds of JSON Web Tokens, except for its signature
+-- and its `at_hash`, for a client that expects this, at the moment `now` (nanoseconds since
+-- 1970-01-01T00:00:00Z)
+pub record RulesHold (expected : Expectation) (now : ℤ) (token : DecodedToken) : Type 0 where
   pub algorithm : IsAlgorithm expected.algorithm token.header.own.algorithm
   pub no_extension : get (codes "crit") token.header.others ≡ None
+  pub encoded : IsEncoded (get (codes "b64") token.header.others)
+  pub token_type : NamesNoOther (get (codes "typ") token.header.others)
   pub claims : ClaimsHold expected now (tenant_of token.claims.others) token.claims.own
+  pub started : HasStarted (now +ℤ pos expected.leeway) (get (codes "nbf") token.claims.others)
+
+-- the token meets these rules and 3.1.3.8, for a client that expects this and got this access token
+pub record Holds (expected : Expectation) (access_token : List ℕ) (now : ℤ) (token : DecodedToken) : Type 0 where
+  pub rules : RulesHold expected now token
   pub hash : IsHashOf token.header.own.algorithm access_token token.claims.own.access_token_hash

@@ -4,6 +4,7 @@ ghost use Rattle.std.specs.Prelude.{◌≡◌, ◌+ℤ◌, pos, map, option_map,
 ghost use Rattle.std.specs.Duration.{as_nanos};
 ghost use Rattle.oauth2_openid.specs.Rules.{
   issuer_rule,
+  subject_rule,
   audience_rule,
   trust_rule,
   party_rule,
@@ -173,6 +174,7 @@ impl IdTokenClaims {
             ≡ claims_checked expected.now now.nanosecond (option_copied tenant.entry) self.now }
     {
         self.check_issuer(expected, tenant)?;
+        self.check_subject()?;
         self.check_audience(expected)?;
         self.check_trust(expected)?;
         self.check_party(expected)?;
@@ -189,6 +191,16 @@ impl IdTokenClaims {
             Ok(())
         } else {
             Err(ClaimsError::OtherIssuer)
+        }
+    }
+
+    fn check_subject(&self) -> Result<(), ClaimsError>
+        ensures { result ≡ subject_rule self.now }
+    {
+        if self.subject().is_empty() {
+            Err(ClaimsError::NoSubject)
+        } else {
+            Ok(())
         }
     }
 
@@ -275,6 +287,9 @@ impl IdTokenClaims {
         let Some(auth_time) = self.auth_time else {
             return Err(ClaimsError::NoAuthTime);
         };
+        if auth_time.as_nanosecond() > nanosecond_after(now, expected.leeway) {
+            return Err(ClaimsError::AuthLater);
+        }
         if now.as_nanosecond() <= latest_use(auth_time, max_age, expected.leeway) {
             Ok(())
         } else {

@@ -5,8 +5,8 @@ ghost use Rattle.oauth2_openid.specs.ErrorTexts.{claims_error_text};
 
 use std::fmt;
 
-/// The first rule of OpenID Connect Core 1.0, section 3.1.3.7, that does not hold. The rules are
-/// tried in the order of these variants.
+/// The first rule of OpenID Connect Core 1.0, section 3.1.3.7, or of another standard that is named
+/// here, that does not hold. The rules are tried in the order of these variants.
 #[derive(Clone, Copy, Debug, PartialEq, Eq, Drop)]
 pub enum ClaimsError {
     /// The token has no signature (`alg` is `none`, in any case of letters, or empty), and the
@@ -17,8 +17,17 @@ pub enum ClaimsError {
     /// The header has the member `crit`, which names extensions that have to be understood. This
     /// crate understands none (RFC 7515, 4.1.11).
     CriticalExtension,
+    /// The header has the member `b64`, and it is not `true`. A JSON Web Token must not be signed
+    /// over a payload that is not encoded (RFC 7797, 7).
+    UnencodedPayload,
+    /// The header has a type (`typ`) that is neither `JWT` nor `application/jwt`, in any case of
+    /// letters. So a token of another kind is refused, such as an access token or a logout token
+    /// (RFC 8725, 3.11 and 3.12).
+    OtherType,
     /// The issuer is not an expected one (3.1.3.7, 2).
     OtherIssuer,
+    /// The subject (`sub`) is empty, so it names no user (section 2).
+    NoSubject,
     /// The client is not in the audience (3.1.3.7, 3).
     OtherAudience,
     /// An audience is neither the client nor one that it trusts (3.1.3.7, 3).
@@ -39,8 +48,12 @@ pub enum ClaimsError {
     OtherNonce,
     /// A maximum age was sent, and the token does not say when the user logged in (section 2).
     NoAuthTime,
+    /// A maximum age was sent, and the user logged in after this moment (section 2).
+    AuthLater,
     /// The user logged in too long ago (3.1.3.7, 13).
     AuthTooOld,
+    /// The claim `nbf` is in the future, or it is no time (RFC 7519, 4.1.5).
+    NotYetValid,
     /// The hash is that of another access token (3.1.3.8).
     OtherAccessToken,
 }
@@ -55,7 +68,10 @@ impl ClaimsError {
             ClaimsError::CriticalExtension => {
                 "the header has an extension that has to be understood"
             }
+            ClaimsError::UnencodedPayload => "the payload is not encoded",
+            ClaimsError::OtherType => "the type is not that of an ID token",
             ClaimsError::OtherIssuer => "the issuer is another one",
+            ClaimsError::NoSubject => "the subject is empty",
             ClaimsError::OtherAudience => "the client is not in the audience",
             ClaimsError::UntrustedAudience => "an audience is not trusted",
             ClaimsError::NoAuthorizedParty => "several audiences, and no authorized party",
@@ -66,7 +82,9 @@ impl ClaimsError {
             ClaimsError::NonceNotSent => "the token has a nonce, and none was sent",
             ClaimsError::OtherNonce => "the nonce is another one",
             ClaimsError::NoAuthTime => "the token does not say when the user logged in",
+            ClaimsError::AuthLater => "the user logged in in the future",
             ClaimsError::AuthTooOld => "the user logged in too long ago",
+            ClaimsError::NotYetValid => "the token is not valid yet",
             ClaimsError::OtherAccessToken => "the hash is that of another access token",
         }
     }

@@ -4,7 +4,7 @@ ghost use Rattle.std.specs.Prelude.{◌≡◌, ◌∷◌, ◌++◌, IfOk, Some};
 ghost use Rattle.serde_json.specs.View.{view};
 ghost use Rattle.oauth2_openid.specs.Token.{TokenReadsAs, compact_of, three_parts, token_parts};
 ghost use Rattle.oauth2_openid.specs.Seen.{compact_token_of};
-ghost use Rattle.oauth2_openid.specs.Reading.{json_part, parts_reading};
+ghost use Rattle.oauth2_openid.specs.Reading.{json_part, parts_reading, text_reading, usual_limit};
 
 use crate::compact::{decode_part, three_parts};
 use crate::header::{IdTokenHeader, WholeHeader};
@@ -50,11 +50,40 @@ fn read_part<T: FromJson>(alloc: Global, part: TokenPart, text: &str) -> Result<
 }
 
 impl<C: FromJson + Drop> CompactToken<C> {
-    /// Reads a token in compact form (RFC 7515, section 7.1).
+    /// Reads a token in compact form (RFC 7515, section 7.1), if it has at most 64 KiB.
     pub fn from_text(alloc: Global, text: &str) -> Result<CompactToken<C>, IdTokenReadError>
         ensures read { TokenReadsAs (compact_token_of C.meaning) result
-            (parts_reading C.reading (three_parts text.now)) }
+            (text_reading C.reading usual_limit text.now) }
         // No byte of the text is lost.
+        ensures compact { IfOk result
+            (λ t. text.now ≡ compact_of (compact_token_of C.meaning t)) }
+    {
+        CompactToken::from_text_with_limit(alloc, text, 65536)
+    }
+
+    /// Reads a token in compact form, if it has at most `limit` bytes. What it holds in memory is at
+    /// most a multiple of that.
+    pub fn from_text_with_limit(
+        alloc: Global,
+        text: &str,
+        limit: usize,
+    ) -> Result<CompactToken<C>, IdTokenReadError>
+        ensures read { TokenReadsAs (compact_token_of C.meaning) result
+            (text_reading C.reading limit text.now) }
+        // No byte of the text is lost.
+        ensures compact { IfOk result
+            (λ t. text.now ≡ compact_of (compact_token_of C.meaning t)) }
+    {
+        if text.len() <= limit {
+            CompactToken::of_text(alloc, text)
+        } else {
+            Err(IdTokenReadError::TooLong)
+        }
+    }
+
+    fn of_text(alloc: Global, text: &str) -> Result<CompactToken<C>, IdTokenReadError>
+        ensures read { TokenReadsAs (compact_token_of C.meaning) result
+            (parts_reading C.reading (three_parts text.now)) }
         ensures compact { IfOk result
             (λ t. text.now ≡ compact_of (compact_token_of C.meaning t)) }
     {

@@ -14,7 +14,7 @@ pub struct Expected {
     /// The client itself.
     pub client_id: ClientId,
     /// The other audiences that the client trusts, most often none. A token with any other
-    /// audience is refused (3.1.3.7, 3).
+    /// audience is refused (3.1.3.7, 3). Each audience of a token is compared with each of these.
     pub other_audiences: Vec<String>,
     /// The other parties to which its tokens may be issued (`azp`), most often none. An example is
     /// an Android app whose tokens name its server as their audience.

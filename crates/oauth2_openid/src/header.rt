@@ -1,12 +1,22 @@
 //! The header of an ID token (RFC 7515, section 4.1).
 
-ghost use Rattle.std.specs.Prelude.{◌≡◌, option_copied, option_map, string_bytes};
+ghost use Rattle.std.specs.Prelude.{
+  ◌≡◌,
+  ℕ,
+  List,
+  Option,
+  option_copied,
+  option_map,
+  string_bytes,
+};
+ghost use Rattle.oauth2_json.specs.Members.{present_member};
+ghost use Rattle.oauth2_json.specs.Values.{text};
 ghost use Rattle.oauth2_openid.specs.Token.{Header, WithOthers, with_others};
 ghost use Rattle.serde_json.specs.View.{view};
 ghost use Rattle.oauth2_openid.specs.Reading.{header_reading};
 
-use oauth2_json::{FromJson, ReadError};
-use oauth2_member_rows::{Member, Needed, Optional, read_value_and_others};
+use oauth2_json::{FromJson, ReadError, members};
+use oauth2_member_rows::{Member, Needed, ReadKind, read_value_and_others};
 use serde_json::Value;
 use std::alloc::Global;
 use std::marker::{Model, PhantomData};
@@ -26,8 +36,25 @@ impl Drop for IdTokenHeader {
     }
 }
 
+// A text that may be absent, but not null.
+struct PresentText;
+
+impl ReadKind for PresentText {
+    type Value = Option<String>;
+
+    ghost Meaning = { Option (List ℕ) };
+
+    ghost meaning = { option_map string_bytes };
+
+    ghost reading = { present_member text };
+
+    fn read(alloc: Global, name: &str, found: Option<Value>) -> Result<Option<String>, ReadError> {
+        members::present::<String>(alloc, name, found)
+    }
+}
+
 // The members of a header.
-const ROWS: (Member<Needed<String>>, (Member<Optional<String>>, ())) = (
+const ROWS: (Member<Needed<String>>, (Member<PresentText>, ())) = (
     Member("alg", PhantomData),
     (Member("kid", PhantomData), ()),
 );

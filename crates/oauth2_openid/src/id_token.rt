@@ -8,12 +8,17 @@ ghost use Rattle.oauth2_openid.specs.Seen.{token_of};
 ghost use Rattle.oauth2_openid.specs.TokenRules.{
   algorithm_rule,
   critical_rule,
+  header_checked,
   names_no_signature,
+  payload_rule,
+  rules_checked,
+  start_rule,
   tenant_of,
   token_checked,
+  type_rule,
   Holds,
 };
-ghost use Rattle.oauth2_openid.specs.Reading.{compact_token_reading};
+ghost use Rattle.oauth2_openid.specs.Reading.{claims_reading, compact_token_reading, text_reading};
 
 use crate::access_token_hash::{AccessTokenHash, check_hash};
 use crate::claims::IdTokenClaims;
@@ -23,6 +28,7 @@ use crate::compact::Encoded;
 use crate::compact_token::CompactToken;
 use crate::expected::Expected;
 use crate::header::IdTokenHeader;
+use crate::kinds::{has_started, is_encoded, takes_plain};
 use crate::read_error::IdTokenReadError;
 use jiff::Timestamp;
 use oauth2_types::AccessToken;
@@ -50,7 +56,7 @@ impl Drop for IdToken {
 }
 
 impl IdToken {
-    /// Reads a token in compact form (RFC 7515, section 7.1).
+    /// Reads a token in compact form (RFC 7515, section 7.1), if it has at most 64 KiB.
     pub fn from_text(alloc: Global, text: &str) -> Result<IdToken, IdTokenReadError>
         ensures read { TokenReadsAs token_of result (compact_token_reading text.now) }
         // No byte of the text is lost.
@@ -58,6 +64,22 @@ impl IdToken {
     {
         Ok(IdToken {
             token: CompactToken::from_text(alloc, text)?,
+        })
+    }
+
+    /// Reads a token in compact form, if it has at most `limit` bytes.
+    pub fn from_text_with_limit(
+        alloc: Global,
+        text: &str,
+        limit: usize,
+    ) -> Result<IdToken, IdTokenReadError>
+        ensures read { TokenReadsAs token_of result
+            (text_reading claims_reading limit text.now) }
+        // No byte of the text is lost.
+        ensures compact { IfOk result (λ t. text.now ≡ compact_of (token_of t)) }
+    {
+        Ok(IdToken {
+            token: CompactToken::from_text_with_limit(alloc, text, limit)?,
         })
     }
 
@@ -130,14 +152,29 @@ impl IdToken {
         ensures { result
             ≡ token_checked expected.now access_token.now now.nanosecond (token_of self.now) }
     {
-        self.check_algorithm(expected)?;
-        self.check_critical()?;
-        self.claims().check(expected, self.tenant(), now)?;
+        self.check_rules(expected, now)?;
         check_hash(
             self.header().algorithm(),
             access_token.secret().as_bytes(),
             self.claims().access_token_hash(),
         )
+    }
+
+    fn check_rules(&self, expected: &Expected, now: Timestamp) -> Result<(), ClaimsError>
+        ensures { result ≡ rules_checked expected.now now.nanosecond (token_of self.now) }
+    {
+        self.check_header(expected)?;
+        self.claims().check(expected, self.tenant(), now)?;
+        self.check_start(expected, now)
+    }
+
+    fn check_header(&self, expected: &Expected) -> Result<(), ClaimsError>
+        ensures { result ≡ header_checked expected.now (token_of self.now).header }
+    {
+        self.check_algorithm(expected)?;
+        self.check_critical()?;
+        self.check_payload()?;
+        self.check_type()
     }
 
     // The tenant that the token names in its claim `tid`, as those of Microsoft Entra do.
@@ -172,6 +209,36 @@ impl IdToken {
             Ok(())
         } else {
             Err(ClaimsError::CriticalExtension)
+        }
+    }
+
+    fn check_payload(&self) -> Result<(), ClaimsError>
+        ensures { result ≡ payload_rule (token_of self.now).header }
+    {
+        if is_encoded(self.other_header_members().get("b64")) {
+            Ok(())
+        } else {
+            Err(ClaimsError::UnencodedPayload)
+        }
+    }
+
+    fn check_type(&self) -> Result<(), ClaimsError>
+        ensures { result ≡ type_rule (token_of self.now).header }
+    {
+        if takes_plain(self.other_header_members().get("typ")) {
+            Ok(())
+        } else {
+            Err(ClaimsError::OtherType)
+        }
+    }
+
+    fn check_start(&self, expected: &Expected, now: Timestamp) -> Result<(), ClaimsError>
+        ensures { result ≡ start_rule expected.now now.nanosecond (token_of self.now).claims.others }
+    {
+        if has_started(self.other_claims().get("nbf"), now, expected.leeway) {
+            Ok(())
+        } else {
+            Err(ClaimsError::NotYetValid)
         }
     }
 }

@@ -31,8 +31,8 @@ pub enum IssuerRule {
 }
 
 impl IssuerRule {
-    // Whether the issuer is expected, for a token that names this tenant.
-    pub(crate) fn names(&self, tenant: Option<&str>, issuer: &str) -> bool
+    /// Whether the issuer is expected, for a token that names this tenant.
+    pub fn names(&self, tenant: Option<&str>, issuer: &str) -> bool
         ensures { result
             ≡ is_issuer (named_issuers self.now) (option_copied tenant.entry) issuer.now }
     {

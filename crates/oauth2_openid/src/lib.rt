@@ -14,6 +14,7 @@ mod fields;
 mod header;
 mod id_token;
 mod issuer_rule;
+pub mod kinds;
 mod law;
 mod nonce;
 mod numeric_date;

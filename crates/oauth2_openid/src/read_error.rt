@@ -22,6 +22,8 @@ pub enum TokenPart {
 /// Why a text could not be read as an ID token.
 #[derive(Debug, PartialEq, Eq, Drop)]
 pub enum IdTokenReadError {
+    /// The text has more bytes than the limit.
+    TooLong,
     /// The text does not have exactly three parts, with dots between them.
     NotThreeParts,
     /// That part is not base64url without padding (RFC 7515, section 2).
@@ -61,6 +63,7 @@ impl fmt::Display for IdTokenReadError {
 
     fn fmt<W: fmt::Write>(&self, f: &mut fmt::Formatter<W>) -> fmt::Result {
         match self {
+            IdTokenReadError::TooLong => f.write_str("too long"),
             IdTokenReadError::NotThreeParts => f.write_str("not three parts"),
             IdTokenReadError::NotBase64(part) => {
                 write_display(f, format_args!("{part}: not base64url"))

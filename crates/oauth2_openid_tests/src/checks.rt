@@ -114,9 +114,36 @@ fn assert_row(
 
 const RS256: &str = r#"{"alg":"RS256"}"#;
 
-// The members that are added, and what the check returns.
-const CLAIMS: [(&str, &str); 42] = [
+// The members about the user, the start and the login that are added, and what the check returns.
+// Each test has a short table, since its proof grows with the rows.
+const STARTS: [(&str, &str); 16] = [
     ("", "Absent"),
+    (r#","sub":"""#, "NoSubject"),
+    (r#","sub":"","aud":"x""#, "NoSubject"),
+    (r#","sub":" ""#, "Absent"),
+    (r#","nbf":1311281000"#, "Absent"),
+    (r#","nbf":1311281001"#, "NotYetValid"),
+    (r#","nbf":1311281000.5"#, "NotYetValid"),
+    (r#","nbf":1311280999.5"#, "Absent"),
+    (r#","nbf":-1"#, "Absent"),
+    (r#","nbf":null"#, "Absent"),
+    (r#","nbf":"1311280999""#, "NotYetValid"),
+    (r#","nbf":1e99"#, "NotYetValid"),
+    (r#","auth_time":1311281001"#, "AuthLater"),
+    (r#","auth_time":1311281000.5"#, "AuthLater"),
+    (r#","auth_time":1311281000"#, "Absent"),
+    (r#","auth_time":1311281001,"nbf":1311281001"#, "AuthLater"),
+];
+
+#[test]
+fn names_the_rule_that_the_user_or_the_start_breaks(rt: HostRuntime) {
+    for (more, word_wanted) in STARTS {
+        assert_row(&rt, expected(&rt), RS256, more, word_wanted);
+    }
+}
+
+// The issuers, audiences and authorized parties that are added, and what the check returns.
+const PARTIES: [(&str, &str); 17] = [
     (r#","iss":"https://server.example.com/""#, "OtherIssuer"),
     (r#","iss":"https://Server.example.com""#, "OtherIssuer"),
     (r#","iss":"""#, "OtherIssuer"),
@@ -143,6 +170,17 @@ const CLAIMS: [(&str, &str); 42] = [
     (r#","azp":"app""#, "Absent"),
     (r#","azp":"s6BhdRkqt3""#, "Absent"),
     (r#","azp":"other""#, "OtherAuthorizedParty"),
+];
+
+#[test]
+fn names_the_rule_that_the_issuer_or_the_audience_breaks(rt: HostRuntime) {
+    for (more, word_wanted) in PARTIES {
+        assert_row(&rt, expected(&rt), RS256, more, word_wanted);
+    }
+}
+
+// The times, nonces and hashes that are added, and what the check returns.
+const CLAIMS: [(&str, &str); 24] = [
     (r#","exp":1311281001"#, "Absent"),
     (r#","exp":1311281000"#, "Expired"),
     (r#","exp":1311280999"#, "Expired"),
@@ -176,14 +214,68 @@ const CLAIMS: [(&str, &str); 42] = [
 ];
 
 #[test]
-fn names_the_rule_that_the_claims_break(rt: HostRuntime) {
+fn names_the_rule_that_another_claim_breaks(rt: HostRuntime) {
     for (more, word_wanted) in CLAIMS {
         assert_row(&rt, expected(&rt), RS256, more, word_wanted);
     }
 }
 
-// The header, the members that are added, and what the check returns.
-const HEADERS: [(&str, &str, &str); 26] = [
+// The header with its type, the members that are added, and what the check returns.
+const TYPES: [(&str, &str, &str); 17] = [
+    (r#"{"alg":"RS256","typ":"JWT"}"#, "", "Absent"),
+    (r#"{"alg":"RS256","typ":"jwt"}"#, "", "Absent"),
+    (r#"{"alg":"RS256","typ":"Jwt"}"#, "", "Absent"),
+    (r#"{"alg":"RS256","typ":"application/jwt"}"#, "", "Absent"),
+    (r#"{"alg":"RS256","typ":"Application/JWT"}"#, "", "Absent"),
+    (r#"{"alg":"RS256","typ":"at+jwt"}"#, "", "OtherType"),
+    (
+        r#"{"alg":"RS256","typ":"application/at+jwt"}"#,
+        "",
+        "OtherType",
+    ),
+    (r#"{"alg":"RS256","typ":"logout+jwt"}"#, "", "OtherType"),
+    (r#"{"alg":"RS256","typ":"secevent+jwt"}"#, "", "OtherType"),
+    (r#"{"alg":"RS256","typ":"dpop+jwt"}"#, "", "OtherType"),
+    (r#"{"alg":"RS256","typ":"JWT "}"#, "", "OtherType"),
+    (
+        r#"{"alg":"RS256","typ":"application/application/jwt"}"#,
+        "",
+        "OtherType",
+    ),
+    (r#"{"alg":"RS256","typ":""}"#, "", "OtherType"),
+    (r#"{"alg":"RS256","typ":null}"#, "", "OtherType"),
+    (r#"{"alg":"RS256","typ":1}"#, "", "OtherType"),
+    (r#"{"alg":"RS256","typ":["JWT"]}"#, "", "OtherType"),
+    (
+        r#"{"alg":"RS256","typ":"at+jwt"}"#,
+        r#","iss":"x""#,
+        "OtherType",
+    ),
+];
+
+#[test]
+fn names_the_type_that_is_no_id_token(rt: HostRuntime) {
+    for (header, more, word_wanted) in TYPES {
+        assert_row(&rt, expected(&rt), header, more, word_wanted);
+    }
+}
+
+// The header without a type, the members that are added, and what the check returns.
+const HEADERS: [(&str, &str, &str); 15] = [
+    (r#"{"alg":"RS256","b64":true}"#, "", "Absent"),
+    (r#"{"alg":"RS256","b64":false}"#, "", "UnencodedPayload"),
+    (r#"{"alg":"RS256","b64":null}"#, "", "UnencodedPayload"),
+    (r#"{"alg":"RS256","b64":"true"}"#, "", "UnencodedPayload"),
+    (
+        r#"{"alg":"RS256","b64":false,"typ":"at+jwt"}"#,
+        "",
+        "UnencodedPayload",
+    ),
+    (
+        r#"{"alg":"RS256","b64":false,"crit":["b64"]}"#,
+        "",
+        "CriticalExtension",
+    ),
     (r#"{"alg":"none"}"#, "", "NoSignature"),
     (r#"{"alg":"none"}"#, r#","iss":"x""#, "NoSignature"),
     (r#"{"alg":"None"}"#, "", "NoSignature"),
@@ -201,6 +293,17 @@ const HEADERS: [(&str, &str, &str); 26] = [
         "CriticalExtension",
     ),
     (r#"{"alg":"none","crit":["exp"]}"#, "", "NoSignature"),
+];
+
+#[test]
+fn names_the_rule_that_the_header_breaks(rt: HostRuntime) {
+    for (header, more, word_wanted) in HEADERS {
+        assert_row(&rt, expected(&rt), header, more, word_wanted);
+    }
+}
+
+// The header with its algorithm, the hash that is added, and what the check returns.
+const HASHES: [(&str, &str, &str); 17] = [
     (
         r#"{"alg":"ES256"}"#,
         r#","at_hash":"77QmUPtjPfzWtF2AnpK9RQ""#,
@@ -289,8 +392,8 @@ const HEADERS: [(&str, &str, &str); 26] = [
 ];
 
 #[test]
-fn names_the_rule_that_the_header_breaks(rt: HostRuntime) {
-    for (header, more, word_wanted) in HEADERS {
+fn compares_the_hash_by_the_algorithm(rt: HostRuntime) {
+    for (header, more, word_wanted) in HASHES {
         assert_row(&rt, expected(&rt), header, more, word_wanted);
     }
 }
@@ -325,20 +428,31 @@ fn takes_the_registered_algorithm(rt: HostRuntime) {
 }
 
 // Claims that break each rule.
-const BROKEN: &str = r#","iss":"x","aud":["x","y"],"exp":0,"iat":1311281001,"nonce":"x",
-    "auth_time":0,"at_hash":"x""#;
+const BROKEN: &str = r#","iss":"x","sub":"","aud":["x","y"],"exp":0,"iat":1311281001,"nonce":"x",
+    "auth_time":1311281001,"nbf":1311281001,"at_hash":"x""#;
 
 // The header, the members that are added to those of the rows before, and what the check returns.
 // Each row corrects what the row before it reported.
-const ORDER: [(&str, &str, &str); 11] = [
-    (r#"{"alg":"none","crit":[]}"#, "", "NoSignature"),
-    (r#"{"alg":"RS256","crit":[]}"#, "", "CriticalExtension"),
-    (RS256, "", "OtherIssuer"),
+const ORDER: [(&str, &str, &str); 16] = [
     (
-        RS256,
-        r#","iss":"https://server.example.com""#,
-        "OtherAudience",
+        r#"{"alg":"none","crit":[],"b64":false,"typ":"x"}"#,
+        "",
+        "NoSignature",
     ),
+    (
+        r#"{"alg":"RS256","crit":[],"b64":false,"typ":"x"}"#,
+        "",
+        "CriticalExtension",
+    ),
+    (
+        r#"{"alg":"RS256","b64":false,"typ":"x"}"#,
+        "",
+        "UnencodedPayload",
+    ),
+    (r#"{"alg":"RS256","typ":"x"}"#, "", "OtherType"),
+    (RS256, "", "OtherIssuer"),
+    (RS256, r#","iss":"https://server.example.com""#, "NoSubject"),
+    (RS256, r#","sub":"24400320""#, "OtherAudience"),
     (RS256, r#","aud":["x","s6BhdRkqt3"]"#, "UntrustedAudience"),
     (
         RS256,
@@ -348,8 +462,10 @@ const ORDER: [(&str, &str, &str); 11] = [
     (RS256, r#","azp":"s6BhdRkqt3""#, "Expired"),
     (RS256, r#","exp":1311281970"#, "IssuedLater"),
     (RS256, r#","iat":1311280970"#, "OtherNonce"),
-    (RS256, r#","nonce":"n-0S6_WzA2Mj""#, "AuthTooOld"),
-    (RS256, r#","auth_time":1311280969"#, "OtherAccessToken"),
+    (RS256, r#","nonce":"n-0S6_WzA2Mj""#, "AuthLater"),
+    (RS256, r#","auth_time":0"#, "AuthTooOld"),
+    (RS256, r#","auth_time":1311280969"#, "NotYetValid"),
+    (RS256, r#","nbf":1311281000"#, "OtherAccessToken"),
 ];
 
 #[test]
