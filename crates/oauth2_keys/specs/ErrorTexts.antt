@@ -9,7 +9,7 @@ use Rattle.oauth2_keys.specs.declared.key_error.KeyError.TheVariants.{Private, M
 use Rattle.oauth2_keys.specs.declared.key_members.KeyReadError.{KeyReadError}
 use Rattle.oauth2_keys.specs.declared.key_members.KeyReadError.TheVariants.{Fault, Memory}
 use Rattle.oauth2_keys.specs.declared.signature_error.SignatureError.{SignatureError}
-use Rattle.oauth2_keys.specs.declared.signature_error.SignatureError.TheVariants.{OtherAlgorithm, NoKey, AmbiguousKey, UnusableKey, ShortSecret, WrongSignature}
+use Rattle.oauth2_keys.specs.declared.signature_error.SignatureError.TheVariants.{OtherAlgorithm, CriticalExtension, NoKey, AmbiguousKey, UnusableKey, ShortSecret, WrongSignature}
 
 -- the text for each fault of a key
 abbrev pub key_error_text : KeyError → List ℕ
@@ -35,6 +35,8 @@ key_read_error_text Memory = codes "out of memory"
 -- the text for each reason why a signature is refused
 abbrev pub signature_error_text : SignatureError → List ℕ
 signature_error_text OtherAlgorithm = codes "the algorithm is not the registered one"
+signature_error_text CriticalExtension =
+    codes "the header has an extension that has to be understood"
 signature_error_text NoKey = codes "no key of the set is for the token"
 signature_error_text AmbiguousKey = codes "several keys of the set are for the token"
 signature_error_text (UnusableKey error) =

@@ -6,5 +6,6 @@ pub mod Key
 pub mod KeySet
 pub mod Members
 pub mod Secret
+pub mod Signature
 pub mod Thumbprint
 pub mod Verified

@@ -1,5 +1,6 @@
 -- ID tokens signed with the client's secret (OpenID Connect Core 1.0, 3.1.3.7, 8, and 10.1).
-use Rattle.std.specs.Prelude.{◌≡◌, ◌≢◌, ◌<◌, ◌≤◌, ℕ, List, length, codes}
+use Rattle.std.specs.Prelude.{◌≡◌, ◌≢◌, ◌<◌, ◌≤◌, ℕ, List, length, None, IsSome, codes}
+use Rattle.serde_json.specs.Find.{get}
 use Rattle.hash_functions.specs.declared.hash_function.HashFunction.{HashFunction}
 use Rattle.hash_functions.specs.declared.hash_function.HashFunction.TheVariants.{Sha256, Sha384, Sha512}
 use Rattle.hash_functions.specs.HashFunction.{hash_size}
@@ -22,10 +23,11 @@ hash_of Hs256 = Sha256
 hash_of Hs384 = Sha384
 hash_of Hs512 = Sha512
 
--- the token has the registered algorithm, the secret is as long as a digest or longer, and the
--- signature is the HMAC of the signed text
+-- the token has the registered algorithm, its header has no `crit` (RFC 7515, 4.1.11), the secret is
+-- as long as a digest or longer, and the signature is the HMAC of the signed text
 pub record IsVerifiedBySecret (secret : List ℕ) (algorithm : SecretAlgorithm) (token : DecodedToken) : Type 0 where
   pub algorithm_is : token.header.own.algorithm ≡ secret_algorithm_name algorithm
+  pub no_extension : get (codes "crit") token.header.others ≡ None
   pub size_is : hash_size (hash_of algorithm) ≤ length secret
   pub signature_is : token.signature ≡ hmac (hash_of algorithm) secret token.signed
 
@@ -33,6 +35,8 @@ pub record IsVerifiedBySecret (secret : List ℕ) (algorithm : SecretAlgorithm) 
 abbrev pub IsSecretRefusal : List ℕ → SecretAlgorithm → DecodedToken → SignatureError → Type 0
 IsSecretRefusal secret algorithm token error.OtherAlgorithm =
     token.header.own.algorithm ≢ secret_algorithm_name algorithm
+IsSecretRefusal secret algorithm token error.CriticalExtension =
+    IsSome (get (codes "crit") token.header.others)
 IsSecretRefusal secret algorithm token error.NoKey = ⊥
 IsSecretRefusal secret algorithm token error.AmbiguousKey = ⊥
 IsSecretRefusal secret algorithm token (error.UnusableKey fault) = ⊥

@@ -46,7 +46,8 @@ pub struct JsonWebKey {
     operations: Option<Vec<String>>,
     algorithm: Option<String>,
     key_id: Option<String>,
-    public_key: PublicKey,
+    // An RSA key has some three kilobytes. A key that cannot be used does not take their place.
+    public_key: Box<PublicKey>,
 }
 
 impl Drop for JsonWebKey {
@@ -88,7 +89,7 @@ impl Model for JsonWebKey {
       operations = option_map (λ list. map string_bytes list.items) k.operations;
       algorithm = option_map string_bytes k.algorithm;
       key_id = option_map string_bytes k.key_id;
-      public_key = k.public_key;
+      public_key = k.public_key.value;
     } };
 }
 
@@ -207,7 +208,7 @@ fn usable(alloc: Global, key: &Value) -> Result<JsonWebKey, KeyReadError>
         operations: own_texts(alloc, key, KeyMember::Operations)?,
         algorithm: own_text(alloc, key, KeyMember::Algorithm)?,
         key_id: own_text(alloc, key, KeyMember::KeyId)?,
-        public_key: public_key(alloc, key)?,
+        public_key: Box::new(alloc, public_key(alloc, key)?)?,
     })
 }
 
@@ -280,7 +281,7 @@ impl JsonWebKey {
     pub fn public_key(&self) -> &PublicKey
         ensures { result.now ≡ self.now.public_key }
     {
-        &self.public_key
+        &*self.public_key
     }
 
     // Whether a token with this algorithm and this key identifier may be signed by this key.
@@ -291,7 +292,7 @@ impl JsonWebKey {
             && fits_operations(self.operations())
             && fits_algorithm(self.algorithm(), algorithm)
             && fits_key_id(self.key_id(), key_id)
-            && fits_type(&self.public_key, algorithm)
+            && fits_type(self.public_key(), algorithm)
     }
 }
 

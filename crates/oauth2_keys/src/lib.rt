@@ -11,6 +11,7 @@ mod key_members;
 mod key_set;
 mod public_key;
 mod secret_algorithm;
+mod signature_check;
 mod signature_error;
 mod thumbprints;
 
@@ -21,5 +22,6 @@ pub use key_members::KeyReadError;
 pub use key_set::JsonWebKeySet;
 pub use public_key::PublicKey;
 pub use secret_algorithm::SecretAlgorithm;
+pub use signature_check::SignatureCheck;
 pub use signature_error::SignatureError;
 pub use thumbprints::thumbprint;

@@ -38,7 +38,8 @@ impl SecretAlgorithm {
         }
     }
 
-    fn hash(self) -> HashFunction
+    /// The hash function of the algorithm's HMAC (RFC 7518, 3.2).
+    pub fn hash_function(self) -> HashFunction
         ensures { result ≡ hash_of self }
     {
         match self {
@@ -48,8 +49,8 @@ impl SecretAlgorithm {
         }
     }
 
-    /// Whether the token has this algorithm, which the client registered, and is signed with the
-    /// client's secret.
+    /// Whether the token has this algorithm, which the client registered, and no `crit` in its
+    /// header, and is signed with the client's secret.
     pub fn verify(self, token: &IdToken, secret: &ClientSecret) -> Result<(), SignatureError>
         ensures verified { IsOk result ↔ IsVerifiedBySecret secret.now self (token_of token.now) }
         ensures refused { IfErr result (IsSecretRefusal secret.now self (token_of token.now)) }
@@ -57,7 +58,10 @@ impl SecretAlgorithm {
         if token.header().algorithm() != self.name() {
             return Err(SignatureError::OtherAlgorithm);
         }
-        let Ok(key) = HmacKey::new(self.hash(), secret.secret().as_bytes()) else {
+        if token.other_header_members().get("crit").is_some() {
+            return Err(SignatureError::CriticalExtension);
+        }
+        let Ok(key) = HmacKey::new(self.hash_function(), secret.secret().as_bytes()) else {
             return Err(SignatureError::ShortSecret);
         };
         if key.verify(token.signed_part().as_bytes(), token.signature()) {

@@ -12,6 +12,9 @@ use std::fmt;
 pub enum SignatureError {
     /// The token's algorithm is not the registered one.
     OtherAlgorithm,
+    /// The token's header has the member `crit`, which names extensions that have to be understood.
+    /// This crate understands none (RFC 7515, 4.1.11).
+    CriticalExtension,
     /// No key of the set is for the token.
     NoKey,
     /// Several keys of the set are for the token, and it does not say which one signed it.
@@ -34,6 +37,9 @@ impl fmt::Display for SignatureError {
             SignatureError::OtherAlgorithm => {
                 f.write_str("the algorithm is not the registered one")
             }
+            SignatureError::CriticalExtension => f.write_str(
+                "the header has an extension that has to be understood",
+            ),
             SignatureError::NoKey => f.write_str("no key of the set is for the token"),
             SignatureError::AmbiguousKey => {
                 f.write_str("several keys of the set are for the token")
