@@ -5,8 +5,8 @@ use Rattle.serde_json.specs.Find.{get}
 use Rattle.oauth2_json.specs.Members.{needed_member, optional_member}
 use Rattle.oauth2_json.specs.Reading.{Reading, ◌⊛◌}
 use Rattle.oauth2_json.specs.Values.{text, words_reading}
-use Rattle.oauth2_times.specs.Instants.{instant}
 use Rattle.oauth2_openid.specs.declared.read_error.TokenPart.TheVariants as part
+use Rattle.oauth2_openid.specs.Times.{time}
 use Rattle.oauth2_openid.specs.Token.{DecodedToken, TokenReading}
 use Rattle.oauth2_openid.specs.Reading.{compact_token_reading, of_part, token_then}
 
@@ -39,7 +39,7 @@ own_claims_in claims =
     ⊛ needed_member text (codes "client_id") (get (codes "client_id") claims)
     ⊛ needed_member text (codes "jti") (get (codes "jti") claims)
     ⊛ optional_member (words_reading text) (codes "scope") (get (codes "scope") claims)
-    ⊛ optional_member instant (codes "nbf") (get (codes "nbf") claims)
+    ⊛ optional_member time (codes "nbf") (get (codes "nbf") claims)
 
 -- the access token of a decoded JSON Web Token, with those claims read from its payload
 abbrev pub own_reading : DecodedToken → TokenReading AccessToken

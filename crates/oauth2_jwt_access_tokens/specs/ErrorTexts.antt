@@ -10,8 +10,11 @@ access_token_fault_text fault.OtherType = codes "the type is not that of an acce
 access_token_fault_text fault.OtherAlgorithm = codes "the algorithm is not the registered one"
 access_token_fault_text fault.CriticalExtension =
     codes "the header has an extension that has to be understood"
+access_token_fault_text fault.UnencodedPayload = codes "the payload is not encoded"
 access_token_fault_text fault.OtherIssuer = codes "the issuer is another one"
 access_token_fault_text fault.OtherAudience = codes "the resource server is not in the audience"
 access_token_fault_text fault.Expired = codes "the token has expired"
 access_token_fault_text fault.NotYetValid = codes "the token is not valid yet"
+access_token_fault_text fault.SenderConstrained =
+    codes "the token is bound to a key that was not proven"
 access_token_fault_text (fault.Signature error) = signature_error_text error

@@ -2,13 +2,17 @@
 -- are tried in the order of this file, and the first broken rule is the fault.
 use Rattle.std.specs.Prelude.{◌≡◌, ◌⊎◌, ℕ, ℤ, pos, ◌+ℤ◌, ◌<ℤ◌, ◌≤ℤ◌, int_lt, int_le, List, map, Contains, Bool, false, not, ◌||◌, Option, Some, None, is_some, option_and_then, IfSome, IsSomeAnd, Ok, Err, bytes_eq, codes}
 use Rattle.std.specs.Char.{to_ascii_lowercase}
+use Rattle.serde_json.specs.Data.{Data}
 use Rattle.serde_json.specs.Find.{get, as_str}
 use Rattle.oauth2_openid.specs.Checks.{Verdict, rule, ◌then◌, is_among}
+use Rattle.oauth2_openid.specs.Kinds.{is_encoded, IsEncoded}
 use Rattle.oauth2_openid.specs.Token.{DecodedToken}
 use Rattle.oauth2_keys.specs.declared.algorithm.SignatureAlgorithm.{SignatureAlgorithm}
 use Rattle.oauth2_keys.specs.declared.json_web_key.ListedKey.{ListedKey}
 use Rattle.oauth2_keys.specs.Algorithm.{algorithm_name}
 use Rattle.oauth2_keys.specs.Verified.{IsRefusal, IsVerified}
+use Rattle.oauth2_jwt_access_tokens.specs.declared.expected.SenderConstraint.{SenderConstraint}
+use Rattle.oauth2_jwt_access_tokens.specs.declared.expected.SenderConstraint.TheVariants.{NoKeyProven}
 use Rattle.oauth2_jwt_access_tokens.specs.declared.fault.AccessTokenFault.{AccessTokenFault}
 use Rattle.oauth2_jwt_access_tokens.specs.declared.fault.AccessTokenFault.TheVariants as fault
 use Rattle.oauth2_jwt_access_tokens.specs.AccessToken.{AccessToken}
@@ -18,6 +22,7 @@ pub record Expectation : Type 0 where
   pub issuer : List ℕ
   pub audience : List ℕ
   pub algorithm : SignatureAlgorithm
+  pub constraint : SenderConstraint
   pub leeway : ℕ
 
 -- whether a type is that of an access token: `at+jwt` or `application/at+jwt`, in any case of
@@ -47,6 +52,11 @@ abbrev pub critical_rule : DecodedToken → Verdict AccessTokenFault
 critical_rule token =
     rule (not (is_some (get (codes "crit") token.header.others))) fault.CriticalExtension
 
+-- RFC 7797, 7: the header's `b64` does not say that the payload is not encoded
+abbrev pub payload_rule : DecodedToken → Verdict AccessTokenFault
+payload_rule token =
+    rule (is_encoded (get (codes "b64") token.header.others)) fault.UnencodedPayload
+
 -- RFC 9068, 4: the claim `iss` is the expected issuer, byte for byte
 abbrev pub issuer_rule : Expectation → DecodedToken → Verdict AccessTokenFault
 issuer_rule expected token =
@@ -73,16 +83,30 @@ start_of leeway now (Some start) = rule (int_le start (now +ℤ pos leeway)) fau
 abbrev pub start_rule : Expectation → ℤ → AccessToken → Verdict AccessTokenFault
 start_rule expected now t = start_of expected.leeway now t.own.not_before
 
+-- RFC 8705, 3.2, and RFC 9449, 6.1: whether what a request proved of a key suffices for a token that
+-- is bound to one, or for one that is not
+abbrev pub suffices : SenderConstraint → Bool → Bool
+suffices NoKeyProven is_bound = not is_bound
+
+-- RFC 7800, 3.1: the token is bound to a key if it has the claim `cnf`, even one that is null; then
+-- the request proved that its sender has the key
+abbrev pub sender_rule : Expectation → DecodedToken → Verdict AccessTokenFault
+sender_rule expected token =
+    rule (suffices expected.constraint (is_some (get (codes "cnf") token.claims.others)))
+    fault.SenderConstrained
+
 -- all rules except that of the signature, in this order: the first broken rule is the fault
 abbrev pub access_token_checked : Expectation → ℤ → AccessToken → Verdict AccessTokenFault
 access_token_checked expected now t =
     type_rule t.token
     then algorithm_rule expected t.token
     then critical_rule t.token
+    then payload_rule t.token
     then issuer_rule expected t.token
     then audience_rule expected t.token
     then expiry_rule expected now t.token
     then start_rule expected now t
+    then sender_rule expected t.token
 
 -- the fault is one of the signature, and says why it is refused
 abbrev pub IsSignatureFault : List ListedKey → SignatureAlgorithm → DecodedToken → AccessTokenFault
@@ -109,13 +133,20 @@ IsAccessTokenType typ =
     (map to_ascii_lowercase typ ≡ codes "at+jwt")
     ⊎ (map to_ascii_lowercase typ ≡ codes "application/at+jwt")
 
+-- what a request proved of a key suffices for a token with this claim `cnf`, or with none: if it
+-- proved none, the token has none
+abbrev pub Suffices : SenderConstraint → Option Data → Type 0
+Suffices NoKeyProven cnf = cnf ≡ None
+
 -- the token meets RFC 9068, 4, for a resource server that expects this and has these keys of the
 -- issuer, at the moment `now` (nanoseconds since 1970-01-01T00:00:00Z)
 pub record AccessTokenHolds (expected : Expectation) (keys : List ListedKey) (now : ℤ) (t : AccessToken) : Type 0 where
   pub token_type : IsSomeAnd (type_of t.token) IsAccessTokenType
   pub no_extension : get (codes "crit") t.token.header.others ≡ None
+  pub encoded : IsEncoded (get (codes "b64") t.token.header.others)
   pub issuer : t.token.claims.own.issuer ≡ expected.issuer
   pub audience : Contains t.token.claims.own.audience expected.audience
   pub not_expired : now <ℤ (t.token.claims.own.expires_at +ℤ pos expected.leeway)
   pub started : IfSome t.own.not_before (λ start. start ≤ℤ (now +ℤ pos expected.leeway))
+  pub sender : Suffices expected.constraint (get (codes "cnf") t.token.claims.others)
   pub signature : IsVerified keys expected.algorithm t.token

@@ -13,17 +13,21 @@ ghost use Rattle.oauth2_jwt_access_tokens.specs.Rules.{
   expiry_rule,
   issuer_rule,
   names_access_token,
+  payload_rule,
+  sender_rule,
   start_rule,
+  suffices,
   type_of,
   type_rule,
 };
 ghost use Rattle.oauth2_jwt_access_tokens.specs.Seen.{access_token_of};
 
 use crate::access_token::JwtAccessToken;
-use crate::expected::ExpectedAccessToken;
+use crate::expected::{ExpectedAccessToken, SenderConstraint};
 use crate::fault::AccessTokenFault;
 use jiff::Timestamp;
 use oauth2_keys::JsonWebKeySet;
+use oauth2_openid::kinds::is_encoded;
 use oauth2_openid::texts::is_among;
 use oauth2_times::nanosecond_after;
 use serde_json::Value;
@@ -62,10 +66,12 @@ impl JwtAccessToken {
         self.check_type()?;
         self.check_algorithm(expected)?;
         self.check_critical()?;
+        self.check_payload()?;
         self.check_issuer(expected)?;
         self.check_audience(expected)?;
         self.check_expiry(expected, now)?;
-        self.check_start(expected, now)
+        self.check_start(expected, now)?;
+        self.check_sender(expected)
     }
 
     // The type of the token (`typ`) in its header, if it is a string.
@@ -105,6 +111,16 @@ impl JwtAccessToken {
             Ok(())
         } else {
             Err(AccessTokenFault::CriticalExtension)
+        }
+    }
+
+    fn check_payload(&self) -> Result<(), AccessTokenFault>
+        ensures { result ≡ payload_rule (access_token_of self.now).token }
+    {
+        if is_encoded(self.token.other_header_members().get("b64")) {
+            Ok(())
+        } else {
+            Err(AccessTokenFault::UnencodedPayload)
         }
     }
 
@@ -160,6 +176,17 @@ impl JwtAccessToken {
         }
     }
 
+    fn check_sender(&self, expected: &ExpectedAccessToken) -> Result<(), AccessTokenFault>
+        ensures { result ≡ sender_rule expected.now (access_token_of self.now).token }
+    {
+        let is_bound = self.other_claims().get("cnf").is_some();
+        if suffices(expected.constraint, is_bound) {
+            Ok(())
+        } else {
+            Err(AccessTokenFault::SenderConstrained)
+        }
+    }
+
     fn check_signature(
         &self,
         expected: &ExpectedAccessToken,
@@ -187,5 +214,14 @@ fn names_access_token(token_type: Option<&str>) -> bool
                 || token_type.eq_ignore_ascii_case("application/at+jwt")
         }
         None => false,
+    }
+}
+
+// Whether what a request proved of a key suffices for a token that is bound to one, or not.
+fn suffices(constraint: SenderConstraint, is_bound: bool) -> bool
+    ensures { result ≡ suffices constraint is_bound }
+{
+    match constraint {
+        SenderConstraint::NoKeyProven => !is_bound,
     }
 }

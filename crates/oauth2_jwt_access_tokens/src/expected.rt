@@ -4,6 +4,17 @@ use oauth2_keys::SignatureAlgorithm;
 use std::marker::Model;
 use std::time::Duration;
 
+/// What a request proved of a key, for a token that is bound to one (`cnf`; RFC 7800, 3.1).
+///
+/// There is one variant, since no proof is checked yet. A check of DPoP's proof (RFC 9449) or of a
+/// certificate of mutual TLS (RFC 8705) would add one that holds a value which it alone makes.
+#[derive(Clone, Copy, Debug, PartialEq, Eq, Drop)]
+pub enum SenderConstraint {
+    /// No key was proven: the token is used as a bearer token (RFC 6750). A token that is bound to a
+    /// key is refused.
+    NoKeyProven,
+}
+
 /// What a JWT access token is checked against.
 #[derive(Drop)]
 pub struct ExpectedAccessToken {
@@ -15,6 +26,8 @@ pub struct ExpectedAccessToken {
     /// The algorithm with which the issuer signs its access tokens. Take it from the issuer's
     /// documents or from its operator, never from a token.
     pub algorithm: SignatureAlgorithm,
+    /// What the request with the token proved of a key.
+    pub constraint: SenderConstraint,
     /// How far the clocks of the issuer and of the resource server may be apart.
     pub leeway: Duration,
 }
@@ -30,6 +43,7 @@ impl Model for ExpectedAccessToken {
       issuer = string_bytes e.issuer;
       audience = string_bytes e.audience;
       algorithm = e.algorithm;
+      constraint = e.constraint;
       leeway = as_nanos e.leeway;
     } };
 }

@@ -20,6 +20,8 @@ pub enum AccessTokenFault {
     /// The header has the member `crit`, which names extensions that have to be understood. This
     /// crate understands none (RFC 7515, 4.1.11).
     CriticalExtension,
+    /// The header has the member `b64`, and it is not `true` (RFC 7797, 7).
+    UnencodedPayload,
     /// The issuer is another one (RFC 9068, 4).
     OtherIssuer,
     /// This resource server is not in the audience (RFC 9068, 4).
@@ -28,6 +30,9 @@ pub enum AccessTokenFault {
     Expired,
     /// The token must not be accepted yet, by its `nbf` (RFC 7519, 4.1.5).
     NotYetValid,
+    /// The token is bound to a key (`cnf`; RFC 7800, 3.1), and the request did not prove that its
+    /// sender has that key (RFC 8705, 3.2; RFC 9449, 6.1).
+    SenderConstrained,
     /// The signature is not one by the issuer's keys (RFC 9068, 4). The variants `OtherAlgorithm`
     /// and `ShortSecret` of the error do not occur here.
     Signature(SignatureError),
@@ -47,12 +52,16 @@ impl fmt::Display for AccessTokenFault {
             AccessTokenFault::CriticalExtension => f.write_str(
                 "the header has an extension that has to be understood",
             ),
+            AccessTokenFault::UnencodedPayload => f.write_str("the payload is not encoded"),
             AccessTokenFault::OtherIssuer => f.write_str("the issuer is another one"),
             AccessTokenFault::OtherAudience => f.write_str(
                 "the resource server is not in the audience",
             ),
             AccessTokenFault::Expired => f.write_str("the token has expired"),
             AccessTokenFault::NotYetValid => f.write_str("the token is not valid yet"),
+            AccessTokenFault::SenderConstrained => f.write_str(
+                "the token is bound to a key that was not proven",
+            ),
             AccessTokenFault::Signature(error) => write_display(f, error),
         }
     }

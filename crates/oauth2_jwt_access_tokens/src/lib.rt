@@ -11,6 +11,6 @@ mod own_claims;
 mod verified;
 
 pub use access_token::{JwtAccessToken, JwtAccessTokenReadError};
-pub use expected::ExpectedAccessToken;
+pub use expected::{ExpectedAccessToken, SenderConstraint};
 pub use fault::AccessTokenFault;
 pub use verified::{RefusedAccessToken, VerifiedAccessToken};

@@ -3,12 +3,14 @@
 ghost use Rattle.std.specs.Prelude.{◌≡◌, IfOk, codes, option_map};
 ghost use Rattle.serde_json.specs.Find.{get};
 ghost use Rattle.serde_json.specs.View.{view};
+ghost use Rattle.oauth2_json.specs.Members.{optional_member};
 ghost use Rattle.oauth2_json.specs.Reading.{ReadsAs};
+ghost use Rattle.oauth2_openid.specs.Times.{time};
 ghost use Rattle.oauth2_jwt_access_tokens.specs.AccessToken.{own_claims_in};
 
 use jiff::Timestamp;
 use oauth2_json::{ReadError, members};
-use oauth2_times::optional_time;
+use oauth2_openid::NumericDate;
 use oauth2_types::{ClientId, Scope};
 use serde_json::Value;
 use std::alloc::{AllocError, Global};
@@ -57,6 +59,17 @@ fn copy_of(claims: &Value, name: &str) -> Result<Option<Value>, AllocError>
     }
 }
 
+// Reads the claim `nbf`.
+fn start_of(alloc: Global, found: Option<Value>) -> Result<Option<Timestamp>, ReadError>
+    ensures { ReadsAs (option_map (λ start. start.nanosecond)) result
+        (optional_member time (codes "nbf") (option_map view found)) }
+{
+    match members::optional::<NumericDate>(alloc, "nbf", found)? {
+        Some(NumericDate(start)) => Ok(Some(start)),
+        None => Ok(None),
+    }
+}
+
 // Reads those claims from the object of claims.
 #[tactic(auto, unfolding(crate::specs::AccessToken::own_claims_in))]
 pub(crate) fn own_claims(alloc: Global, claims: &Value) -> Result<AccessTokenClaims, ReadError>
@@ -66,6 +79,6 @@ pub(crate) fn own_claims(alloc: Global, claims: &Value) -> Result<AccessTokenCla
         client_id: members::needed(alloc, "client_id", copy_of(claims, "client_id")?)?,
         token_id: members::needed(alloc, "jti", copy_of(claims, "jti")?)?,
         scopes: members::optional_words(alloc, "scope", copy_of(claims, "scope")?)?,
-        not_before: optional_time(alloc, "nbf", copy_of(claims, "nbf")?)?,
+        not_before: start_of(alloc, copy_of(claims, "nbf")?)?,
     })
 }

@@ -15,7 +15,8 @@ use oauth2_codes::BasicTokenType;
 use oauth2_introspection::StandardTokenIntrospectionResponse;
 use oauth2_json::{FromJson, ToJson};
 use oauth2_jwt_access_tokens::{
-    ExpectedAccessToken, JwtAccessToken, JwtAccessTokenReadError, VerifiedAccessToken,
+    ExpectedAccessToken, JwtAccessToken, JwtAccessTokenReadError, SenderConstraint,
+    VerifiedAccessToken,
 };
 use oauth2_keys::{JsonWebKeySet, SignatureAlgorithm};
 use oauth2_replies::EmptyExtraTokenFields;
@@ -60,6 +61,7 @@ fn read_expected(alloc: Global, line: &str) -> io::Result<Option<ExpectedAccessT
         issuer,
         audience,
         algorithm,
+        constraint: SenderConstraint::NoKeyProven,
         leeway: Duration::from_secs(u64::from(seconds)),
     }))
 }
