@@ -6,9 +6,9 @@ use Rattle.oauth2_json.specs.Reading.{Reading, read_then, ◌⊛◌}
 use Rattle.oauth2_json.specs.Values.{text, texts, text_items}
 use Rattle.oauth2_body_members.specs.Table.{Table, column, ◌▸◌, end, Builder, names_of, table_reading}
 use Rattle.oauth2_times.specs.Instants.{second_data}
-use Rattle.oauth2_openid.specs.Reading.{parts_reading}
+use Rattle.oauth2_openid.specs.Reading.{text_reading, usual_limit}
 use Rattle.oauth2_openid.specs.Times.{time}
-use Rattle.oauth2_openid.specs.Token.{WithOthers, with_others, three_parts, TokenReading}
+use Rattle.oauth2_openid.specs.Token.{WithOthers, with_others, TokenReading}
 use Rattle.oauth2_logout_tokens.specs.LogoutToken.{LogoutClaims, logout_claims, DecodedLogoutToken}
 
 -- 2.4: for each claim its name, how it is read, and how it is shown as JSON
@@ -42,4 +42,4 @@ claims_reading d = read_then (members_of_object d) claims_in
 
 -- the logout token that a text in compact form holds, or why it holds none (RFC 7515, 7.1)
 abbrev pub logout_token_reading : List ℕ → TokenReading DecodedLogoutToken
-logout_token_reading encoded = parts_reading claims_reading (three_parts encoded)
+logout_token_reading encoded = text_reading claims_reading usual_limit encoded

@@ -9,11 +9,18 @@ agrees None known = true
 agrees (Some told) None = false
 agrees (Some told) (Some known) = bytes_eq told known
 
--- 2.4 and 2.7: whether the token ends a session of its issuer with this `sub` and this `sid`: each
--- of the two claims that the token has is the session's. A token without `sid` ends all sessions of
--- its `sub`.
-abbrev pub is_of : LogoutClaims → List ℕ → Option (List ℕ) → Bool
-is_of claims subject session_id =
-    (is_some claims.subject || is_some claims.session_id)
-    && agrees claims.subject (Some subject)
-    && agrees claims.session_id session_id
+-- a session of a client, as its ID token names it: the claims `iss`, `sub` and, if it has one, `sid`
+pub record Session : Type 0 where
+  pub issuer : List ℕ
+  pub subject : List ℕ
+  pub session_id : Option (List ℕ)
+
+-- 2.4 and 2.7: whether the token ends this session: it has the session's issuer, and each of the
+-- claims `sub` and `sid` that the token has is the session's. A token without `sid` ends all sessions
+-- of its `sub`.
+abbrev pub is_of : LogoutClaims → Session → Bool
+is_of claims session =
+    bytes_eq claims.issuer session.issuer
+    && (is_some claims.subject || is_some claims.session_id)
+    && agrees claims.subject (Some session.subject)
+    && agrees claims.session_id session.session_id

@@ -1,8 +1,11 @@
 //! The rules for a logout token at a client (OpenID Connect Back-Channel Logout 1.0, 2.6).
 
-ghost use Rattle.std.specs.Prelude.{◌≡◌, ◌↔◌, IfErr, IsOk, option_map};
+ghost use Rattle.std.specs.Prelude.{◌≡◌, ◌↔◌, IfErr, IsOk, option_copied, option_map};
 ghost use Rattle.serde_json.specs.View.{view};
+ghost use Rattle.oauth2_keys.specs.Secret.{IsSecretRefusal, IsVerifiedBySecret};
+ghost use Rattle.oauth2_keys.specs.Signature.{IsSignatureRefusal, IsSigned, check_of};
 ghost use Rattle.oauth2_keys.specs.Verified.{IsRefusal, IsVerified};
+ghost use Rattle.oauth2_openid.specs.TokenRules.{tenant_of};
 ghost use Rattle.oauth2_logout_tokens.specs.LogoutToken.{as_id_token};
 ghost use Rattle.oauth2_logout_tokens.specs.Rules.{
   IsFirstFault,
@@ -15,12 +18,16 @@ ghost use Rattle.oauth2_logout_tokens.specs.Rules.{
   event_rule,
   expiry_rule,
   header_checked,
+  identifier_rule,
+  is_empty_text,
   issued_rule,
   issuer_rule,
   logout_checked,
   logout_token_checked,
   nonce_rule,
+  payload_rule,
   session_rule,
+  start_rule,
   told_event,
   trust_rule,
   type_rule,
@@ -30,31 +37,37 @@ ghost use Rattle.oauth2_logout_tokens.specs.Seen.{logout_token_of};
 use crate::expected::ExpectedLogoutToken;
 use crate::fault::LogoutTokenFault;
 use crate::logout_token::LogoutToken;
+use hmac_signatures::HmacKey;
 use jiff::Timestamp;
-use oauth2_keys::{JsonWebKeySet, SignatureAlgorithm, SignatureError};
+use oauth2_keys::{
+    JsonWebKeySet, SecretAlgorithm, SignatureAlgorithm, SignatureCheck, SignatureError,
+};
+use oauth2_openid::kinds::{has_started, is_encoded};
 use oauth2_openid::texts::{are_known, is_among};
 use oauth2_times::nanosecond_after;
+use oauth2_types::ClientSecret;
 use serde_json::Value;
 use std::ops::Deref;
 use std::time::Duration;
 
 impl LogoutToken {
-    /// Checks each rule for the token at the moment `now`, for a client that expects this and has
-    /// these keys of the issuer. The error is the first broken rule, in the order of
-    /// `LogoutTokenFault`. It allocates nothing.
+    /// Checks each rule for the token at the moment `now`, for a client that expects this, and that
+    /// checks signatures by the issuer's keys or by its own secret, with the algorithm that it
+    /// registered. The error is the first broken rule, in the order of `LogoutTokenFault`. It
+    /// allocates nothing.
     pub fn check(
         &self,
         expected: &ExpectedLogoutToken,
-        keys: &JsonWebKeySet,
+        check: SignatureCheck<'_>,
         now: Timestamp,
     ) -> Result<(), LogoutTokenFault>
-        ensures succeeds { IsOk result
-            ↔ LogoutTokenHolds expected.now keys.now now.nanosecond (logout_token_of self.now) }
-        ensures refused { IfErr result
-            (IsFirstFault expected.now keys.now now.nanosecond (logout_token_of self.now)) }
+        ensures succeeds { IsOk result ↔ LogoutTokenHolds expected.now (check_of check.entry)
+            now.nanosecond (logout_token_of self.now) }
+        ensures refused { IfErr result (IsFirstFault expected.now (check_of check.entry)
+            now.nanosecond (logout_token_of self.now)) }
     {
-        match self.first_broken(expected, now) {
-            Ok(()) => self.check_signature(expected, keys),
+        match self.first_broken(expected, check, now) {
+            Ok(()) => self.check_signature(check),
             Err(fault) => Err(fault),
         }
     }
@@ -63,22 +76,29 @@ impl LogoutToken {
     fn first_broken(
         &self,
         expected: &ExpectedLogoutToken,
+        check: SignatureCheck<'_>,
         now: Timestamp,
     ) -> Result<(), LogoutTokenFault>
-        ensures { result
-            ≡ logout_token_checked expected.now now.nanosecond (logout_token_of self.now) }
+        ensures { result ≡ logout_token_checked expected.now (check_of check.entry)
+            now.nanosecond (logout_token_of self.now) }
     {
-        self.check_header(expected)?;
+        self.check_header(expected, check)?;
         self.check_claims(expected, now)?;
         self.check_logout()
     }
 
-    fn check_header(&self, expected: &ExpectedLogoutToken) -> Result<(), LogoutTokenFault>
-        ensures { result ≡ header_checked expected.now (logout_token_of self.now) }
+    fn check_header(
+        &self,
+        expected: &ExpectedLogoutToken,
+        check: SignatureCheck<'_>,
+    ) -> Result<(), LogoutTokenFault>
+        ensures { result
+            ≡ header_checked expected.now (check_of check.entry) (logout_token_of self.now) }
     {
         self.check_type(expected)?;
-        self.check_algorithm(expected)?;
-        self.check_critical()
+        self.check_algorithm(check)?;
+        self.check_critical()?;
+        self.check_payload()
     }
 
     fn check_claims(
@@ -92,13 +112,15 @@ impl LogoutToken {
         self.check_audience(expected)?;
         self.check_trust(expected)?;
         self.check_expiry(expected, now)?;
-        self.check_issued(expected, now)
+        self.check_issued(expected, now)?;
+        self.check_start(expected, now)
     }
 
     fn check_logout(&self) -> Result<(), LogoutTokenFault>
         ensures { result ≡ logout_checked (logout_token_of self.now) }
     {
         self.check_session()?;
+        self.check_identifiers()?;
         self.check_event()?;
         self.check_nonce()
     }
@@ -114,10 +136,10 @@ impl LogoutToken {
         }
     }
 
-    fn check_algorithm(&self, expected: &ExpectedLogoutToken) -> Result<(), LogoutTokenFault>
-        ensures { result ≡ algorithm_rule expected.now (logout_token_of self.now) }
+    fn check_algorithm(&self, check: SignatureCheck<'_>) -> Result<(), LogoutTokenFault>
+        ensures { result ≡ algorithm_rule (check_of check.entry) (logout_token_of self.now) }
     {
-        if self.algorithm() == expected.algorithm.name() {
+        if self.algorithm() == check.algorithm_name() {
             Ok(())
         } else {
             Err(LogoutTokenFault::OtherAlgorithm)
@@ -134,10 +156,27 @@ impl LogoutToken {
         }
     }
 
+    fn check_payload(&self) -> Result<(), LogoutTokenFault>
+        ensures { result ≡ payload_rule (logout_token_of self.now) }
+    {
+        if is_encoded(self.other_header_members().get("b64")) {
+            Ok(())
+        } else {
+            Err(LogoutTokenFault::UnencodedPayload)
+        }
+    }
+
+    // The tenant that the token names in its claim `tid`, as those of Microsoft Entra do.
+    fn tenant(&self) -> Option<&str>
+        ensures { option_copied result ≡ tenant_of (logout_token_of self.now).claims.others }
+    {
+        self.other_claims().get("tid").and_then(Value::as_str)
+    }
+
     fn check_issuer(&self, expected: &ExpectedLogoutToken) -> Result<(), LogoutTokenFault>
         ensures { result ≡ issuer_rule expected.now (logout_token_of self.now) }
     {
-        if self.issuer() == expected.issuer.as_str() {
+        if expected.issuer.names(self.tenant(), self.issuer()) {
             Ok(())
         } else {
             Err(LogoutTokenFault::OtherIssuer)
@@ -193,6 +232,20 @@ impl LogoutToken {
         }
     }
 
+    fn check_start(
+        &self,
+        expected: &ExpectedLogoutToken,
+        now: Timestamp,
+    ) -> Result<(), LogoutTokenFault>
+        ensures { result ≡ start_rule expected.now now.nanosecond (logout_token_of self.now) }
+    {
+        if has_started(self.other_claims().get("nbf"), now, expected.leeway) {
+            Ok(())
+        } else {
+            Err(LogoutTokenFault::NotYetValid)
+        }
+    }
+
     fn check_session(&self) -> Result<(), LogoutTokenFault>
         ensures { result ≡ session_rule (logout_token_of self.now) }
     {
@@ -200,6 +253,19 @@ impl LogoutToken {
             Ok(())
         } else {
             Err(LogoutTokenFault::NoSession)
+        }
+    }
+
+    fn check_identifiers(&self) -> Result<(), LogoutTokenFault>
+        ensures { result ≡ identifier_rule (logout_token_of self.now) }
+    {
+        let is_empty = is_empty_text(self.subject())
+            || is_empty_text(self.session_id())
+            || self.token_id().is_empty();
+        if is_empty {
+            Err(LogoutTokenFault::EmptyIdentifier)
+        } else {
+            Ok(())
         }
     }
 
@@ -237,24 +303,33 @@ impl LogoutToken {
         }
     }
 
-    fn check_signature(
-        &self,
-        expected: &ExpectedLogoutToken,
-        keys: &JsonWebKeySet,
-    ) -> Result<(), LogoutTokenFault>
-        ensures verified { IsOk result ↔ IsVerified keys.now expected.now.algorithm
-            (as_id_token (logout_token_of self.now)) }
-        ensures refused { IfErr result (IsSignatureFault keys.now expected.now.algorithm
-            (as_id_token (logout_token_of self.now))) }
+    fn check_signature(&self, check: SignatureCheck<'_>) -> Result<(), LogoutTokenFault>
+        ensures verified { IsOk result
+            ↔ IsSigned (check_of check.entry) (as_id_token (logout_token_of self.now)) }
+        ensures refused { IfErr result
+            (IsSignatureFault (check_of check.entry) (as_id_token (logout_token_of self.now))) }
     {
-        match self.verify(keys, expected.algorithm) {
+        match self.verify(check) {
             Ok(()) => Ok(()),
             Err(error) => Err(LogoutTokenFault::Signature(error)),
         }
     }
 
-    // Whether the token has this algorithm, and is signed by the key that is chosen for it.
-    fn verify(
+    fn verify(&self, check: SignatureCheck<'_>) -> Result<(), SignatureError>
+        ensures verified { IsOk result
+            ↔ IsSigned (check_of check.entry) (as_id_token (logout_token_of self.now)) }
+        ensures refused { IfErr result
+            (IsSignatureRefusal (check_of check.entry) (as_id_token (logout_token_of self.now))) }
+    {
+        match check {
+            SignatureCheck::Keys(keys, algorithm) => self.verify_by_keys(keys, algorithm),
+            SignatureCheck::Secret(secret, algorithm) => self.verify_by_secret(secret, algorithm),
+        }
+    }
+
+    // Whether the token has this algorithm and no `crit`, and is signed by the key that is chosen for
+    // it.
+    fn verify_by_keys(
         &self,
         keys: &JsonWebKeySet,
         algorithm: SignatureAlgorithm,
@@ -267,11 +342,51 @@ impl LogoutToken {
         if self.algorithm() != algorithm.name() {
             return Err(SignatureError::OtherAlgorithm);
         }
+        if self.other_header_members().get("crit").is_some() {
+            return Err(SignatureError::CriticalExtension);
+        }
         let key = keys.chosen_key(algorithm, self.key_id())?;
         if key.verify(algorithm, self.signed_part().as_bytes(), self.signature()) {
             Ok(())
         } else {
             Err(SignatureError::WrongSignature)
         }
+    }
+
+    // Whether the token has this algorithm and no `crit`, and is signed with the client's secret.
+    fn verify_by_secret(
+        &self,
+        secret: &ClientSecret,
+        registered: SecretAlgorithm,
+    ) -> Result<(), SignatureError>
+        ensures verified { IsOk result
+            ↔ IsVerifiedBySecret secret.now registered (as_id_token (logout_token_of self.now)) }
+        ensures refused { IfErr result
+            (IsSecretRefusal secret.now registered (as_id_token (logout_token_of self.now))) }
+    {
+        if self.algorithm() != registered.name() {
+            return Err(SignatureError::OtherAlgorithm);
+        }
+        if self.other_header_members().get("crit").is_some() {
+            return Err(SignatureError::CriticalExtension);
+        }
+        let Ok(key) = HmacKey::new(registered.hash_function(), secret.secret().as_bytes()) else {
+            return Err(SignatureError::ShortSecret);
+        };
+        if key.verify(self.signed_part().as_bytes(), self.signature()) {
+            Ok(())
+        } else {
+            Err(SignatureError::WrongSignature)
+        }
+    }
+}
+
+// Whether a text is there and empty.
+fn is_empty_text(text: Option<&str>) -> bool
+    ensures { result ≡ is_empty_text (option_copied text.entry) }
+{
+    match text {
+        Some(text) => text.is_empty(),
+        None => false,
     }
 }

@@ -14,12 +14,14 @@ pub enum LogoutTokenFault {
     /// The header's `typ` is not one that the client takes, or no string (2.4).
     OtherType,
     /// The algorithm is not the registered one. A token with `none` is refused for this (2.6, 3),
-    /// and so is a token with an HMAC.
+    /// and so is one with an HMAC, unless the client registered that.
     OtherAlgorithm,
     /// The header has the member `crit`, which names extensions that have to be understood. This
     /// crate understands none (RFC 7515, 4.1.11).
     CriticalExtension,
-    /// The issuer is another one (2.6, 4).
+    /// The header has the member `b64`, and it is not `true` (RFC 7797, 7).
+    UnencodedPayload,
+    /// The issuer is not an expected one (2.6, 4).
     OtherIssuer,
     /// The client is not in the audience (2.6, 4).
     OtherAudience,
@@ -29,16 +31,21 @@ pub enum LogoutTokenFault {
     Expired,
     /// The token was issued in the future (2.6, 4).
     IssuedLater,
+    /// The claim `nbf` is in the future, or it is no time (RFC 7519, 4.1.5).
+    NotYetValid,
     /// The token has neither `sub` nor `sid` (2.6, 5).
     NoSession,
+    /// The claim `sub`, `sid` or `jti` is an empty text, so it identifies nothing (2.4).
+    EmptyIdentifier,
     /// The claim `events` is not an object with the member
     /// `http://schemas.openid.net/event/backchannel-logout`, or that member is not an object (2.4,
     /// and 2.6, 6). An ID token is refused for this.
     NoLogoutEvent,
     /// The token has a `nonce` (2.6, 7). An ID token may have one, and a logout token must not.
     HasNonce,
-    /// The signature is not one by the issuer's keys (2.6, 2). The variants `OtherAlgorithm` and
-    /// `ShortSecret` of the error do not occur here.
+    /// The signature is not one by the issuer's keys, or with the client's secret (2.6, 2). The
+    /// variants `OtherAlgorithm` and `CriticalExtension` of the error do not occur here, and
+    /// `ShortSecret` only with a secret.
     Signature(SignatureError),
 }
 
@@ -56,14 +63,17 @@ impl fmt::Display for LogoutTokenFault {
             LogoutTokenFault::CriticalExtension => f.write_str(
                 "the header has an extension that has to be understood",
             ),
+            LogoutTokenFault::UnencodedPayload => f.write_str("the payload is not encoded"),
             LogoutTokenFault::OtherIssuer => f.write_str("the issuer is another one"),
             LogoutTokenFault::OtherAudience => f.write_str("the client is not in the audience"),
             LogoutTokenFault::UntrustedAudience => f.write_str("an audience is not trusted"),
             LogoutTokenFault::Expired => f.write_str("the token has expired"),
             LogoutTokenFault::IssuedLater => f.write_str("the token was issued in the future"),
+            LogoutTokenFault::NotYetValid => f.write_str("the token is not valid yet"),
             LogoutTokenFault::NoSession => f.write_str(
                 "the token names neither a user nor a session",
             ),
+            LogoutTokenFault::EmptyIdentifier => f.write_str("an identifier is empty"),
             LogoutTokenFault::NoLogoutEvent => f.write_str("the token has no logout event"),
             LogoutTokenFault::HasNonce => f.write_str("the token has a nonce"),
             LogoutTokenFault::Signature(error) => write_display(f, error),

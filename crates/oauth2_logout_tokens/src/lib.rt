@@ -13,6 +13,6 @@ mod verified;
 
 pub use expected::ExpectedLogoutToken;
 pub use fault::LogoutTokenFault;
-pub use logout_token::{LogoutToken, LogoutTokenReadError};
+pub use logout_token::{ClientSession, LogoutToken, LogoutTokenReadError};
 pub use type_rule::TypeRule;
 pub use verified::{RefusedLogoutToken, VerifiedLogoutToken};

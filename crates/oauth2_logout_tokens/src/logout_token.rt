@@ -5,7 +5,7 @@ ghost use Rattle.std.specs.Fmt.{DisplaysOnOk, WritesStyledOnOk};
 ghost use Rattle.serde_json.specs.View.{view};
 ghost use Rattle.oauth2_openid.specs.Token.{TokenReadsAs};
 ghost use Rattle.oauth2_logout_tokens.specs.Reading.{logout_token_reading};
-ghost use Rattle.oauth2_logout_tokens.specs.Seen.{logout_token_of};
+ghost use Rattle.oauth2_logout_tokens.specs.Seen.{logout_token_of, session_of};
 ghost use Rattle.oauth2_logout_tokens.specs.Sessions.{agrees, is_of};
 
 use crate::claims::AllClaims;
@@ -33,6 +33,17 @@ impl Drop for LogoutToken {
     fn drop(self) {
         let LogoutToken { token: _ } = self;
     }
+}
+
+/// A session of a client, as the ID token of its login names it.
+#[derive(Clone, Copy)]
+pub struct ClientSession<'a> {
+    /// Who issued that ID token (`iss`).
+    pub issuer: &'a str,
+    /// The user (`sub`).
+    pub subject: &'a str,
+    /// The identifier of the session (`sid`), if that ID token has one.
+    pub session_id: Option<&'a str>,
 }
 
 impl LogoutToken {
@@ -146,16 +157,16 @@ impl LogoutToken {
         &self.token.claims().others
     }
 
-    /// Whether the token ends a session whose ID token is by the same issuer, and has this `sub`
-    /// and this `sid` (2.6, 10 and 11; 2.7). Both claims are compared if the token has both. A
-    /// token without `sid` ends each session of its `sub`; a token with neither ends none.
-    pub fn is_of(&self, subject: &str, session_id: Option<&str>) -> bool
-        ensures { result ≡ is_of (logout_token_of self.now).claims.own subject.now
-            (option_copied session_id.entry) }
+    /// Whether the token ends this session (2.6, 10 and 11; 2.7). The issuer is compared, and `sub`
+    /// and `sid`, if the token has them. A token without `sid` ends each session of its `sub`; a
+    /// token with neither ends none.
+    pub fn is_of(&self, session: &ClientSession<'_>) -> bool
+        ensures { result ≡ is_of (logout_token_of self.now).claims.own (session_of session.now) }
     {
-        (self.subject().is_some() || self.session_id().is_some())
-            && agrees(self.subject(), Some(subject))
-            && agrees(self.session_id(), session_id)
+        self.issuer() == session.issuer
+            && (self.subject().is_some() || self.session_id().is_some())
+            && agrees(self.subject(), Some(session.subject))
+            && agrees(self.session_id(), session.session_id)
     }
 }
 

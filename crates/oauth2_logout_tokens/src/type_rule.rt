@@ -4,12 +4,12 @@ ghost use Rattle.std.specs.Prelude.{◌≡◌, option_map};
 ghost use Rattle.serde_json.specs.View.{view};
 ghost use Rattle.oauth2_logout_tokens.specs.Rules.{
   names_logout,
-  names_plain,
   takes_named,
   takes_type,
   takes_untyped,
 };
 
+use oauth2_openid::kinds::names_plain;
 use serde_json::Value;
 
 /// Which types (`typ`) the header of a logout token may have. Types are compared in any case of
@@ -64,11 +64,4 @@ fn names_logout(token_type: &str) -> bool
 {
     token_type.eq_ignore_ascii_case("logout+jwt")
         || token_type.eq_ignore_ascii_case("application/logout+jwt")
-}
-
-// Whether a type is that of any JSON Web Token.
-fn names_plain(token_type: &str) -> bool
-    ensures { result ≡ names_plain token_type.now }
-{
-    token_type.eq_ignore_ascii_case("jwt") || token_type.eq_ignore_ascii_case("application/jwt")
 }

@@ -2,6 +2,7 @@
 
 ghost use Rattle.std.specs.Prelude.{◌≡◌, ◌↔◌, IfErr, IfOk, IsOk, Some, codes};
 ghost use Rattle.std.specs.Fmt.{DisplaysOnOk, WritesStyledOnOk};
+ghost use Rattle.oauth2_keys.specs.Signature.{check_of};
 ghost use Rattle.oauth2_logout_tokens.specs.ErrorTexts.{logout_token_fault_text};
 ghost use Rattle.oauth2_logout_tokens.specs.Rules.{IsFirstFault, LogoutTokenHolds};
 ghost use Rattle.oauth2_logout_tokens.specs.Seen.{logout_token_of, verified_token_of};
@@ -10,7 +11,7 @@ use crate::expected::ExpectedLogoutToken;
 use crate::fault::LogoutTokenFault;
 use crate::logout_token::LogoutToken;
 use jiff::Timestamp;
-use oauth2_keys::JsonWebKeySet;
+use oauth2_keys::SignatureCheck;
 use std::fmt;
 
 /// A logout token for which every rule of OpenID Connect Back-Channel Logout 1.0, 2.6, held when it
@@ -35,18 +36,18 @@ impl LogoutToken {
     pub fn verified(
         self,
         expected: &ExpectedLogoutToken,
-        keys: &JsonWebKeySet,
+        check: SignatureCheck<'_>,
         now: Timestamp,
     ) -> Result<VerifiedLogoutToken, RefusedLogoutToken>
-        ensures succeeds { IsOk result
-            ↔ LogoutTokenHolds expected.now keys.now now.nanosecond (logout_token_of self) }
+        ensures succeeds { IsOk result ↔ LogoutTokenHolds expected.now (check_of check.entry)
+            now.nanosecond (logout_token_of self) }
         ensures same { IfOk result (λ v. verified_token_of v ≡ logout_token_of self) }
         ensures refused { IfErr result
-            (λ r. IsFirstFault expected.now keys.now now.nanosecond (logout_token_of self)
-            r.fault) }
+            (λ r. IsFirstFault expected.now (check_of check.entry) now.nanosecond
+            (logout_token_of self) r.fault) }
         ensures given_back { IfErr result (λ r. r.token ≡ self) }
     {
-        match self.check(expected, keys, now) {
+        match self.check(expected, check, now) {
             Ok(()) => Ok(VerifiedLogoutToken { token: self }),
             Err(fault) => Err(RefusedLogoutToken { fault, token: self }),
         }

@@ -1,40 +1,75 @@
 //! Reads the logout tokens and keys that standard input lists, and checks the tokens.
 //!
-//! A line `set JSON` reads the keys of the issuer. A line `expect ISSUER CLIENT ALGORITHM TYPES
-//! LEEWAY AUDIENCES` sets what a client expects: TYPES is `only` or `plain`, the leeway is in
-//! seconds, and AUDIENCES are the other audiences that it trusts, if any. A line `says TOKEN`
+//! A line `set JSON` reads the keys of the issuer, and a line `secret TEXT` sets the client's secret.
+//! A line `expect ISSUER CLIENT ALGORITHM TYPES LEEWAY AUDIENCES` sets what a client expects: with
+//! an ALGORITHM such as `HS256` its secret checks signatures, TYPES is `only` or `plain`, the leeway
+//! is in seconds, and AUDIENCES are the other audiences that it trusts, if any. A line `says TOKEN`
 //! prints what a token has. A line `check SECOND TOKEN` checks a token at that second since 1970,
-//! and `verified SECOND TOKEN` prints what comes of it. A line `of SUBJECT SESSION TOKEN` prints
-//! whether a token ends that session, where `-` is for a session without an identifier. A line that
-//! begins with `#` is a heading, and is printed as it is. The file `stdout` has the expected output
-//! for the file `stdin`.
+//! and `verified SECOND TOKEN` prints what comes of it. A line `of ISSUER SUBJECT SESSION TOKEN`
+//! prints whether a token ends that session, where `-` is for a session without an identifier. An
+//! ISSUER of `expect` with `{tenant}` in it is one for each tenant. A line that begins with `#` is a
+//! heading, and is printed as it is. The file `stdout` has the expected output for the file `stdin`.
 
 #![tactic(auto)]
 
 use jiff::Timestamp;
 use oauth2_json::FromJson;
-use oauth2_keys::{JsonWebKeySet, SignatureAlgorithm};
+use oauth2_keys::{JsonWebKeySet, SecretAlgorithm, SignatureAlgorithm, SignatureCheck};
 use oauth2_logout_tokens::{
-    ExpectedLogoutToken, LogoutToken, LogoutTokenReadError, RefusedLogoutToken, TypeRule,
-    VerifiedLogoutToken,
+    ClientSession, ExpectedLogoutToken, LogoutToken, LogoutTokenReadError, RefusedLogoutToken,
+    TypeRule, VerifiedLogoutToken,
 };
-use oauth2_types::ClientId;
+use oauth2_openid::IssuerRule;
+use oauth2_types::{ClientId, ClientSecret};
 use std::alloc::Global;
 use std::io::{self, BufRead, BufReader, Write};
 use std::time::Duration;
 
+// The algorithm that the client registered.
+#[derive(Clone, Copy)]
+enum Registered {
+    ByKeys(SignatureAlgorithm),
+    BySecret(SecretAlgorithm),
+}
+
+// What the client expects, by a line `expect`.
+struct Expectation {
+    registered: Registered,
+    token: ExpectedLogoutToken,
+}
+
+impl Drop for Expectation {
+    fn drop(self) {
+        let Expectation {
+            registered: _,
+            token: _,
+        } = self;
+    }
+}
+
 // What the lines so far have set.
 struct Client {
     keys: JsonWebKeySet,
-    expected: ExpectedLogoutToken,
+    secret: ClientSecret,
+    expected: Expectation,
 }
 
 impl Drop for Client {
     fn drop(self) {
         let Client {
             keys: _,
+            secret: _,
             expected: _,
         } = self;
+    }
+}
+
+impl Client {
+    fn signature_check(&self) -> SignatureCheck<'_> {
+        match self.expected.registered {
+            Registered::ByKeys(algorithm) => SignatureCheck::Keys(&self.keys, algorithm),
+            Registered::BySecret(algorithm) => SignatureCheck::Secret(&self.secret, algorithm),
+        }
     }
 }
 
@@ -50,20 +85,29 @@ fn read_types(word: &str) -> Option<TypeRule> {
     }
 }
 
+fn read_algorithm(name: &str) -> Option<Registered> {
+    match name {
+        "HS256" => Some(Registered::BySecret(SecretAlgorithm::Hs256)),
+        "HS384" => Some(Registered::BySecret(SecretAlgorithm::Hs384)),
+        "HS512" => Some(Registered::BySecret(SecretAlgorithm::Hs512)),
+        _ => Some(Registered::ByKeys(SignatureAlgorithm::from_name(name)?)),
+    }
+}
+
 // What a client expects of a logout token beside its texts.
 #[derive(Clone, Copy)]
 struct Rules {
-    algorithm: SignatureAlgorithm,
+    registered: Registered,
     type_rule: TypeRule,
     leeway: Duration,
 }
 
 fn read_rules(algorithm: &str, types: &str, leeway: &str) -> Option<Rules> {
-    let algorithm = SignatureAlgorithm::from_name(algorithm)?;
+    let registered = read_algorithm(algorithm)?;
     let type_rule = read_types(types)?;
     let seconds = leeway.parse::<u32>().ok()?;
     Some(Rules {
-        algorithm,
+        registered,
         type_rule,
         leeway: Duration::from_secs(u64::from(seconds)),
     })
@@ -80,27 +124,40 @@ fn read_audiences(alloc: Global, text: Option<&str>) -> io::Result<Vec<String>> 
     Ok(audiences)
 }
 
+fn read_issuer(alloc: Global, text: &str) -> io::Result<IssuerRule> {
+    match text.split_once("{tenant}") {
+        Some((before, after)) => {
+            let before = String::from_str(alloc, before)?;
+            let after = String::from_str(alloc, after)?;
+            Ok(IssuerRule::PerTenant { before, after })
+        }
+        None => Ok(IssuerRule::Is(String::from_str(alloc, text)?)),
+    }
+}
+
 fn expected_by(
     alloc: Global,
     rules: Rules,
     issuer: &str,
     client: &str,
     audiences: Option<&str>,
-) -> io::Result<ExpectedLogoutToken> {
-    let issuer = String::from_str(alloc, issuer)?;
+) -> io::Result<Expectation> {
+    let issuer = read_issuer(alloc, issuer)?;
     let client = String::from_str(alloc, client)?;
     let other_audiences = read_audiences(alloc, audiences)?;
-    Ok(ExpectedLogoutToken {
-        issuer,
-        client_id: ClientId::new(client),
-        other_audiences,
-        algorithm: rules.algorithm,
-        type_rule: rules.type_rule,
-        leeway: rules.leeway,
+    Ok(Expectation {
+        registered: rules.registered,
+        token: ExpectedLogoutToken {
+            issuer,
+            client_id: ClientId::new(client),
+            other_audiences,
+            type_rule: rules.type_rule,
+            leeway: rules.leeway,
+        },
     })
 }
 
-fn read_expected(alloc: Global, line: &str) -> io::Result<Option<ExpectedLogoutToken>> {
+fn read_expected(alloc: Global, line: &str) -> io::Result<Option<Expectation>> {
     let mut words = line.splitn(6, ' ');
     let issuer = words.next().unwrap_or("");
     let client = words.next().unwrap_or("");
@@ -168,11 +225,16 @@ fn write_says<W: Write>(alloc: Global, text: &str, writer: &mut W) -> io::Result
 }
 
 fn write_is_of<W: Write>(alloc: Global, line: &str, writer: &mut W) -> io::Result<()> {
-    let (subject, words) = line.split_once(' ').unwrap_or(("", ""));
+    let (issuer, words) = line.split_once(' ').unwrap_or(("", ""));
+    let (subject, words) = words.split_once(' ').unwrap_or(("", ""));
     let (session, text) = words.split_once(' ').unwrap_or(("", ""));
-    let session = if session == "-" { None } else { Some(session) };
+    let session = ClientSession {
+        issuer,
+        subject,
+        session_id: if session == "-" { None } else { Some(session) },
+    };
     match LogoutToken::from_text(alloc, text) {
-        Ok(token) => writeln!(writer, "{}", token.is_of(subject, session)),
+        Ok(token) => writeln!(writer, "{}", token.is_of(&session)),
         Err(error) => write_no_token(error, writer),
     }
 }
@@ -192,7 +254,7 @@ fn write_checked<W: Write>(
             writeln!(
                 writer,
                 "{:?}",
-                token.check(&client.expected, &client.keys, now)
+                token.check(&client.expected.token, client.signature_check(), now)
             )
         }
         Err(error) => write_no_token(error, writer),
@@ -221,7 +283,7 @@ fn write_judged<W: Write>(
     now: Timestamp,
     writer: &mut W,
 ) -> io::Result<()> {
-    match token.verified(&client.expected, &client.keys, now) {
+    match token.verified(&client.expected.token, client.signature_check(), now) {
         Ok(verified) => write_accepted(verified, writer),
         Err(refused) => write_refused(&refused, writer),
     }
@@ -294,6 +356,11 @@ fn set_expected<W: Write>(
     }
 }
 
+fn set_secret(alloc: Global, client: &mut Client, text: &str) -> io::Result<()> {
+    client.secret = ClientSecret::new(String::from_str(alloc, text)?);
+    Ok(())
+}
+
 fn run_line<W: Write>(
     alloc: Global,
     client: &mut Client,
@@ -302,6 +369,8 @@ fn run_line<W: Write>(
 ) -> io::Result<()> {
     if let Some(text) = line.strip_prefix("set ") {
         set_keys(alloc, client, text, writer)
+    } else if let Some(text) = line.strip_prefix("secret ") {
+        set_secret(alloc, client, text)
     } else if let Some(words) = line.strip_prefix("expect ") {
         set_expected(alloc, client, words, writer)
     } else {
@@ -326,7 +395,12 @@ fn new_client(alloc: Global) -> io::Result<Option<Client>> {
     let Some(keys) = read_set(alloc, "{\"keys\":[]}") else {
         return Ok(None);
     };
-    Ok(Some(Client { keys, expected }))
+    let secret = ClientSecret::new(String::new(alloc));
+    Ok(Some(Client {
+        keys,
+        secret,
+        expected,
+    }))
 }
 
 fn main(rt: HostRuntime) -> io::Result<()> {
