@@ -45,26 +45,26 @@ no_error_after : (found : Bool) (k : List ℕ) (more : Parse Members) (o : Optio
 no_error_after found k more None is = refl
 no_error_after found k more (Some (j, r)) is = with_wrong_member found k j (is j r refl) (more r)
 
-pub told_member : (found : Bool) (n : ℕ) (k : List ℕ) (ts s r : List Token) (j : Json) → 0 < n → read_key ts ≡ Some (Some k, s) → value 127 s ≡ Some (j, r)
+pub told_member : (found : Bool) (n : ℕ) (k : List ℕ) (ts s r : List Token) (j : Json) → 0 < n → read_key ts ≡ Some (Some k, s) → value 126 s ≡ Some (j, r)
     → is_no_error k j ≡ false → is_error k j ≡ bytes_eq k (codes "error")
-    → told_in found (members (value 127) n ts) ≡ told_in (found || bytes_eq k (codes "error")) (members (value 127) (n - 1) r)
+    → told_in found (members (value 126) n ts) ≡ told_in (found || bytes_eq k (codes "error")) (members (value 126) (n - 1) r)
 told_member found n k ts s r j some key read not_wrong is =
-    ap (told_in found) (members_more (value 127) n k ts s r j some key read) ∙ with_member found k j not_wrong is _
+    ap (told_in found) (members_more (value 126) n k ts s r j some key read) ∙ with_member found k j not_wrong is _
 
-pub told_wrong_member : (found : Bool) (n : ℕ) (k : List ℕ) (ts s : List Token) → read_key ts ≡ Some (Some k, s) → StandsInNone k s → is_told (told_in found (members (value 127) n ts)) ≡ false
+pub told_wrong_member : (found : Bool) (n : ℕ) (k : List ℕ) (ts s : List Token) → read_key ts ≡ Some (Some k, s) → StandsInNone k s → is_told (told_in found (members (value 126) n ts)) ≡ false
 unfolding members
 told_wrong_member found zero k ts s key is = refl
-told_wrong_member found (suc n) k ts s key is = rw key (no_error_after found k (members (value 127) n) (value 127 s) is)
+told_wrong_member found (suc n) k ts s key is = rw key (no_error_after found k (members (value 126) n) (value 126 s) is)
 
-pub told_no_key : (found : Bool) (n : ℕ) (ts : List Token) → read_key ts ≡ None → is_told (told_in found (members (value 127) n ts)) ≡ false
-told_no_key found n ts e = ap (λ o. is_told (told_in found o)) (members_no_key (value 127) n ts e)
+pub told_no_key : (found : Bool) (n : ℕ) (ts : List Token) → read_key ts ≡ None → is_told (told_in found (members (value 126) n ts)) ≡ false
+told_no_key found n ts e = ap (λ o. is_told (told_in found o)) (members_no_key (value 126) n ts e)
 
 same_found : (found : Bool) → (found || false) && true ≡ found
 same_found true = refl
 same_found false = refl
 
-pub told_over : (found : Bool) (n : ℕ) (ts r : List Token) → length ts ≤ n → read_key ts ≡ Some (None, r) → told_in found (members (value 127) n ts) ≡ Some (found, r)
-told_over found n ts r enough e = ap (told_in found) (members_end (value 127) n ts r enough e) ∙ ap (λ b. Some (b, r)) (same_found found)
+pub told_over : (found : Bool) (n : ℕ) (ts r : List Token) → length ts ≤ n → read_key ts ≡ Some (None, r) → told_in found (members (value 126) n ts) ≡ Some (found, r)
+told_over found n ts r enough e = ap (told_in found) (members_end (value 126) n ts r enough e) ∙ ap (λ b. Some (b, r)) (same_found found)
 
 -- at the brace
 pub found_at_end : (found : Bool) (r : List Token) (told : Option (Bool × List Token)) → told ≡ Some (found, r) → MatchBool found (told ≡ Some (true, r)) (is_told told ≡ false)
@@ -79,11 +79,11 @@ whole_object (Some (ms, [])) = refl
 whole_object (Some (ms, t ∷ ts)) = refl
 
 -- tokens that open an object
-opened : (all ts : List Token) → all ≡ Token.begin_object ∷ ts → tells_error (object_at all) ≡ told_at_end (told_in false (members (value 127) (length ts) ts))
+opened : (all ts : List Token) → all ≡ Token.begin_object ∷ ts → tells_error (object_at all) ≡ told_at_end (told_in false (members (value 126) (length ts) ts))
 opened all ts first =
     ap (λ all. tells_error (object_at all)) first
-    ∙ ap (λ o. tells_error (option_and_then members_of (option_and_then (λ p. if_last p.0 p.1) o))) (value-begin_object 128 ts (omega arith))
-    ∙ whole_object (members (value 127) (length ts) ts)
+    ∙ ap (λ o. tells_error (option_and_then members_of (option_and_then (λ p. if_last p.0 p.1) o))) (value-begin_object 127 ts (omega arith))
+    ∙ whole_object (members (value 126) (length ts) ts)
 
 -- tokens that open none tell no error
 pub not_opened : (all : List Token) → begins_with_brace all ≡ false → tells_error (object_at all) ≡ false
@@ -95,11 +95,11 @@ not_told_at_end (Some (told, [])) e = e
 not_told_at_end (Some (told, t ∷ ts)) e = refl
 
 -- the members tell none
-pub none_told : (all ts : List Token) → all ≡ Token.begin_object ∷ ts → is_told (told_in false (members (value 127) (length ts) ts)) ≡ false → tells_error (object_at all) ≡ false
-none_told all ts first e = opened all ts first ∙ not_told_at_end (told_in false (members (value 127) (length ts) ts)) e
+pub none_told : (all ts : List Token) → all ≡ Token.begin_object ∷ ts → is_told (told_in false (members (value 126) (length ts) ts)) ≡ false → tells_error (object_at all) ≡ false
+none_told all ts first e = opened all ts first ∙ not_told_at_end (told_in false (members (value 126) (length ts) ts)) e
 
 -- the members tell one, and these tokens follow
-pub told_before : (all ts r : List Token) → all ≡ Token.begin_object ∷ ts → told_in false (members (value 127) (length ts) ts) ≡ Some (true, r) → tells_error (object_at all) ≡ told_at_end (Some (true, r))
+pub told_before : (all ts r : List Token) → all ≡ Token.begin_object ∷ ts → told_in false (members (value 126) (length ts) ts) ≡ Some (true, r) → tells_error (object_at all) ≡ told_at_end (Some (true, r))
 told_before all ts r first e = opened all ts first ∙ ap told_at_end e
 
 -- whether nothing follows
@@ -125,24 +125,24 @@ object_read : (o : Option (Members × List Token)) → text_read (parse_map obje
 object_read None = refl
 object_read (Some p) = refl
 
-no_text : (ts : List Token) → begins_with_text ts ≡ false → text_read (value 127 ts) ≡ false
-no_text [] e = ap text_read (value_is 127 [])
-no_text (Token.begin_object ∷ ts) e = ap text_read (value_is 127 (Token.begin_object ∷ ts)) ∙ object_read _
-no_text (Token.end_object ∷ ts) e = ap text_read (value_is 127 (Token.end_object ∷ ts))
-no_text (Token.begin_array ∷ ts) e = ap text_read (value_is 127 (Token.begin_array ∷ ts)) ∙ array_read _
-no_text (Token.end_array ∷ ts) e = ap text_read (value_is 127 (Token.end_array ∷ ts))
-no_text (Token.key s ∷ ts) e = ap text_read (value_is 127 (Token.key s ∷ ts))
+no_text : (ts : List Token) → begins_with_text ts ≡ false → text_read (value 126 ts) ≡ false
+no_text [] e = ap text_read (value_is 126 [])
+no_text (Token.begin_object ∷ ts) e = ap text_read (value_is 126 (Token.begin_object ∷ ts)) ∙ object_read _
+no_text (Token.end_object ∷ ts) e = ap text_read (value_is 126 (Token.end_object ∷ ts))
+no_text (Token.begin_array ∷ ts) e = ap text_read (value_is 126 (Token.begin_array ∷ ts)) ∙ array_read _
+no_text (Token.end_array ∷ ts) e = ap text_read (value_is 126 (Token.end_array ∷ ts))
+no_text (Token.key s ∷ ts) e = ap text_read (value_is 126 (Token.key s ∷ ts))
 no_text (Token.string s ∷ ts) e = absurd (cc)
-no_text (Token.number s ∷ ts) e = ap text_read (value_is 127 (Token.number s ∷ ts))
-no_text (Token.boolean b ∷ ts) e = ap text_read (value_is 127 (Token.boolean b ∷ ts))
-no_text (Token.null ∷ ts) e = ap text_read (value_is 127 (Token.null ∷ ts))
-no_text (Token.bad ∷ ts) e = ap text_read (value_is 127 (Token.bad ∷ ts))
+no_text (Token.number s ∷ ts) e = ap text_read (value_is 126 (Token.number s ∷ ts))
+no_text (Token.boolean b ∷ ts) e = ap text_read (value_is 126 (Token.boolean b ∷ ts))
+no_text (Token.null ∷ ts) e = ap text_read (value_is 126 (Token.null ∷ ts))
+no_text (Token.bad ∷ ts) e = ap text_read (value_is 126 (Token.bad ∷ ts))
 
-pub no_text_read : (ts r : List Token) (j : Json) → begins_with_text ts ≡ false → value 127 ts ≡ Some (j, r) → is_text j ≡ false
+pub no_text_read : (ts r : List Token) (j : Json) → begins_with_text ts ≡ false → value 126 ts ≡ Some (j, r) → is_text j ≡ false
 no_text_read ts r j e read = sym (ap text_read read) ∙ no_text ts e
 
-pub text_read_is : (s : List ℕ) (ts r : List Token) → ts ≡ Token.string s ∷ r → value 127 ts ≡ Some (string s, r)
-text_read_is s ts r e = ap (value 127) e ∙ value_is 127 (Token.string s ∷ r)
+pub text_read_is : (s : List ℕ) (ts r : List Token) → ts ≡ Token.string s ∷ r → value 126 ts ≡ Some (string s, r)
+text_read_is s ts r e = ap (value 126) e ∙ value_is 126 (Token.string s ∷ r)
 
 never_both : (o : Option (Json × List Token)) (j : Json) (r : List Token) → left o ≡ None → o ≡ Some (j, r) → ⊥
 never_both None j r none found = absurd (cc)
@@ -160,10 +160,10 @@ module _ (name : List ℕ) (token : bytes_eq name (codes "access_token") ≡ fal
       (j, text_read_is rest.0 before after rest.1, rw rest.1 (omega arith), left_over j ∙ ap (λ b. b && false) error ∙ refl, ap (λ b. b && true) error ∙ sym error)
   text_stands before after error false text rest = λ j r read. left_over j ∙ ap (λ b. b && not (is_text j)) error ∙ ap not (no_text_read before r j (sym text) read)
 
-  pub other_stands : (before after : List Token) → bytes_eq name (codes "error") ≡ false → skip_value 127 before ≡ Some after → length after < length before → MayStandInError name before after
+  pub other_stands : (before after : List Token) → bytes_eq name (codes "error") ≡ false → skip_value 126 before ≡ Some after → length after < length before → MayStandInError name before after
   other_stands before after error read shorter =
-      let j = left_some (value 127 before) after read in
+      let j = left_some (value 126 before) after read in
       (j.0, j.1, shorter, left_over j.0 ∙ ap (λ b. b && not (is_text j.0)) error, ap (λ b. b && is_text j.0) error ∙ sym error)
 
-pub none_stand : (name : List ℕ) (before : List Token) → skip_value 127 before ≡ None → StandsInNone name before
-none_stand name before none j r found = absurd (never_both (value 127 before) j r none found)
+pub none_stand : (name : List ℕ) (before : List Token) → skip_value 126 before ≡ None → StandsInNone name before
+none_stand name before none j r found = absurd (never_both (value 126 before) j r none found)

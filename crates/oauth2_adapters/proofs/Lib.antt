@@ -4,3 +4,4 @@ mod ErrorTurns
 mod RewritingTurns
 mod Headers
 mod LawLemmas
+mod Names

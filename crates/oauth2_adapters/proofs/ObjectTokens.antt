@@ -20,14 +20,14 @@ one_token j [] e = e
 one_token j (t ∷ ts) e = refl
 
 pub object_at-no_brace : (ts : List Token) → begins_with_brace ts ≡ false → object_at ts ≡ None
-object_at-no_brace [] e = ap object_read (value_is 128 [])
+object_at-no_brace [] e = ap object_read (value_is 127 [])
 object_at-no_brace (Token.begin_object ∷ ts) e = absurd (cc)
-object_at-no_brace (Token.end_object ∷ ts) e = ap object_read (value_is 128 (Token.end_object ∷ ts))
-object_at-no_brace (Token.begin_array ∷ ts) e = ap object_read (value_is 128 (Token.begin_array ∷ ts)) ∙ an_array _
-object_at-no_brace (Token.end_array ∷ ts) e = ap object_read (value_is 128 (Token.end_array ∷ ts))
-object_at-no_brace (Token.key s ∷ ts) e = ap object_read (value_is 128 (Token.key s ∷ ts))
-object_at-no_brace (Token.string s ∷ ts) e = ap object_read (value_is 128 (Token.string s ∷ ts)) ∙ one_token _ ts refl
-object_at-no_brace (Token.number s ∷ ts) e = ap object_read (value_is 128 (Token.number s ∷ ts)) ∙ one_token _ ts refl
-object_at-no_brace (Token.boolean b ∷ ts) e = ap object_read (value_is 128 (Token.boolean b ∷ ts)) ∙ one_token _ ts refl
-object_at-no_brace (Token.null ∷ ts) e = ap object_read (value_is 128 (Token.null ∷ ts)) ∙ one_token _ ts refl
-object_at-no_brace (Token.bad ∷ ts) e = ap object_read (value_is 128 (Token.bad ∷ ts))
+object_at-no_brace (Token.end_object ∷ ts) e = ap object_read (value_is 127 (Token.end_object ∷ ts))
+object_at-no_brace (Token.begin_array ∷ ts) e = ap object_read (value_is 127 (Token.begin_array ∷ ts)) ∙ an_array _
+object_at-no_brace (Token.end_array ∷ ts) e = ap object_read (value_is 127 (Token.end_array ∷ ts))
+object_at-no_brace (Token.key s ∷ ts) e = ap object_read (value_is 127 (Token.key s ∷ ts))
+object_at-no_brace (Token.string s ∷ ts) e = ap object_read (value_is 127 (Token.string s ∷ ts)) ∙ one_token _ ts refl
+object_at-no_brace (Token.number s ∷ ts) e = ap object_read (value_is 127 (Token.number s ∷ ts)) ∙ one_token _ ts refl
+object_at-no_brace (Token.boolean b ∷ ts) e = ap object_read (value_is 127 (Token.boolean b ∷ ts)) ∙ one_token _ ts refl
+object_at-no_brace (Token.null ∷ ts) e = ap object_read (value_is 127 (Token.null ∷ ts)) ∙ one_token _ ts refl
+object_at-no_brace (Token.bad ∷ ts) e = ap object_read (value_is 127 (Token.bad ∷ ts))

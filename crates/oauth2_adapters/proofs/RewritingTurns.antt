@@ -38,29 +38,29 @@ module _ (change : Change) where
       ap (λ b. Some ((b, written ++ Token.key k ∷ (json_tokens (unwrap_or (change k j) j) ++ members_tokens (changed_members change p.0))), p.1)) (one_more changed (is_some (change k j)) (changes change p.0))
       ∙ ap (λ ts. Some (((changed || is_some (change k j)) || changes change p.0, ts), p.1)) (tokens_more written k (json_tokens (unwrap_or (change k j) j)) (members_tokens (changed_members change p.0)))
 
-  member_written : (changed : Bool) (written : List Token) (n : ℕ) (k : List ℕ) (ts s r : List Token) (j : Json) → 0 < n → read_key ts ≡ Some (Some k, s) → value 127 s ≡ Some (j, r)
-      → progress_in change changed written (members (value 127) n ts) ≡ progress_in change (changed || is_some (change k j)) (written ++ Token.key k ∷ [] ++ json_tokens (unwrap_or (change k j) j)) (members (value 127) (n - 1) r)
+  member_written : (changed : Bool) (written : List Token) (n : ℕ) (k : List ℕ) (ts s r : List Token) (j : Json) → 0 < n → read_key ts ≡ Some (Some k, s) → value 126 s ≡ Some (j, r)
+      → progress_in change changed written (members (value 126) n ts) ≡ progress_in change (changed || is_some (change k j)) (written ++ Token.key k ∷ [] ++ json_tokens (unwrap_or (change k j) j)) (members (value 126) (n - 1) r)
   member_written changed written n k ts s r j some key read =
-      ap (progress_in change changed written) (members_more (value 127) n k ts s r j some key read) ∙ with_member changed written k j _
+      ap (progress_in change changed written) (members_more (value 126) n k ts s r j some key read) ∙ with_member changed written k j _
 
   -- one more turn of the loop
-  pub turn : (changed after : Bool) (written more : List Token) (n : ℕ) (k : List ℕ) (ts s r : List Token) (j : Json) → 0 < n → read_key ts ≡ Some (Some k, s) → value 127 s ≡ Some (j, r)
+  pub turn : (changed after : Bool) (written more : List Token) (n : ℕ) (k : List ℕ) (ts s r : List Token) (j : Json) → 0 < n → read_key ts ≡ Some (Some k, s) → value 126 s ≡ Some (j, r)
       → changed || is_some (change k j) ≡ after → more ≡ written ++ Token.key k ∷ [] ++ json_tokens (unwrap_or (change k j) j)
-      → progress_in change changed written (members (value 127) n ts) ≡ progress_in change after more (members (value 127) (n - 1) r)
+      → progress_in change changed written (members (value 126) n ts) ≡ progress_in change after more (members (value 126) (n - 1) r)
   turn changed after written more n k ts s r j some key read flag tokens =
       member_written changed written n k ts s r j some key read
-      ∙ ap (λ b. progress_in change b (written ++ Token.key k ∷ [] ++ json_tokens (unwrap_or (change k j) j)) (members (value 127) (n - 1) r)) flag
-      ∙ ap (λ w. progress_in change after w (members (value 127) (n - 1) r)) (sym tokens)
+      ∙ ap (λ b. progress_in change b (written ++ Token.key k ∷ [] ++ json_tokens (unwrap_or (change k j) j)) (members (value 126) (n - 1) r)) flag
+      ∙ ap (λ w. progress_in change after w (members (value 126) (n - 1) r)) (sym tokens)
 
-  pub no_member : (changed : Bool) (written : List Token) (n : ℕ) (k : List ℕ) (ts s : List Token) → read_key ts ≡ Some (Some k, s) → value 127 s ≡ None → progress_in change changed written (members (value 127) n ts) ≡ None
-  no_member changed written n k ts s key none = ap (progress_in change changed written) (members_fail (value 127) n k ts s key none)
+  pub no_member : (changed : Bool) (written : List Token) (n : ℕ) (k : List ℕ) (ts s : List Token) → read_key ts ≡ Some (Some k, s) → value 126 s ≡ None → progress_in change changed written (members (value 126) n ts) ≡ None
+  no_member changed written n k ts s key none = ap (progress_in change changed written) (members_fail (value 126) n k ts s key none)
 
-  pub no_key : (changed : Bool) (written : List Token) (n : ℕ) (ts : List Token) → read_key ts ≡ None → progress_in change changed written (members (value 127) n ts) ≡ None
-  no_key changed written n ts e = ap (progress_in change changed written) (members_no_key (value 127) n ts e)
+  pub no_key : (changed : Bool) (written : List Token) (n : ℕ) (ts : List Token) → read_key ts ≡ None → progress_in change changed written (members (value 126) n ts) ≡ None
+  no_key changed written n ts e = ap (progress_in change changed written) (members_no_key (value 126) n ts e)
 
-  pub brace_written : (changed : Bool) (written : List Token) (n : ℕ) (ts r : List Token) → length ts ≤ n → read_key ts ≡ Some (None, r) → progress_in change changed written (members (value 127) n ts) ≡ Some ((changed, written ++ Token.end_object ∷ []), r)
+  pub brace_written : (changed : Bool) (written : List Token) (n : ℕ) (ts r : List Token) → length ts ≤ n → read_key ts ≡ Some (None, r) → progress_in change changed written (members (value 126) n ts) ≡ Some ((changed, written ++ Token.end_object ∷ []), r)
   brace_written changed written n ts r enough e =
-      ap (progress_in change changed written) (members_end (value 127) n ts r enough e) ∙ ap (λ b. Some ((b, written ++ Token.end_object ∷ []), r)) (same_flag changed)
+      ap (progress_in change changed written) (members_end (value 126) n ts r enough e) ∙ ap (λ b. Some ((b, written ++ Token.end_object ∷ []), r)) (same_flag changed)
 
   -- ---- the whole text
 
@@ -69,20 +69,20 @@ module _ (change : Change) where
   whole_object (Some (ms, [])) = refl
   whole_object (Some (ms, t ∷ ts)) = sym (nothing (changes change ms) None None refl refl)
 
-  opened : (all ts old : List Token) → all ≡ Token.begin_object ∷ ts → old ≡ Token.begin_object ∷ [] → new_body change (object_at all) ≡ text_at_end (progress_in change false old (members (value 127) (length ts) ts))
+  opened : (all ts old : List Token) → all ≡ Token.begin_object ∷ ts → old ≡ Token.begin_object ∷ [] → new_body change (object_at all) ≡ text_at_end (progress_in change false old (members (value 126) (length ts) ts))
   opened all ts old first begun =
       ap (λ all. new_body change (object_at all)) first
-      ∙ ap (λ o. new_body change (option_and_then members_of (option_and_then (λ p. if_last p.0 p.1) o))) (value-begin_object 128 ts (omega arith))
-      ∙ whole_object (members (value 127) (length ts) ts)
-      ∙ ap (λ w. text_at_end (progress_in change false w (members (value 127) (length ts) ts))) (sym begun)
+      ∙ ap (λ o. new_body change (option_and_then members_of (option_and_then (λ p. if_last p.0 p.1) o))) (value-begin_object 127 ts (omega arith))
+      ∙ whole_object (members (value 126) (length ts) ts)
+      ∙ ap (λ w. text_at_end (progress_in change false w (members (value 126) (length ts) ts))) (sym begun)
 
   -- the members were written, and these tokens follow
   pub finished : (all ts old r written : List Token) (changed : Bool) → all ≡ Token.begin_object ∷ ts → old ≡ Token.begin_object ∷ []
-      → progress_in change false old (members (value 127) (length ts) ts) ≡ Some ((changed, written), r) → new_body change (object_at all) ≡ text_at_end (Some ((changed, written), r))
+      → progress_in change false old (members (value 126) (length ts) ts) ≡ Some ((changed, written), r) → new_body change (object_at all) ≡ text_at_end (Some ((changed, written), r))
   finished all ts old r written changed first begun e = opened all ts old first begun ∙ ap text_at_end e
 
   pub unfinished : (all ts old : List Token) → all ≡ Token.begin_object ∷ ts → old ≡ Token.begin_object ∷ []
-      → progress_in change false old (members (value 127) (length ts) ts) ≡ None → new_body change (object_at all) ≡ None
+      → progress_in change false old (members (value 126) (length ts) ts) ≡ None → new_body change (object_at all) ≡ None
   unfinished all ts old first begun e = opened all ts old first begun ∙ ap text_at_end e
 
   pub not_opened : (all : List Token) → begins_with_brace all ≡ false → new_body change (object_at all) ≡ None

@@ -2,4 +2,5 @@
 pub mod First
 pub mod ErrorMembers
 pub mod Tokens
+pub mod Names
 pub mod Written

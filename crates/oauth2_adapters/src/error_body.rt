@@ -13,8 +13,8 @@ use crate::first::{opens_object, pass_text};
 use json::{Reader, Scratch};
 use std::alloc::{AllocError, Global};
 
-// How deep the value of a member may nest: the whole body may nest 128 deep.
-const DEPTH: usize = 127;
+// How deep the value of a member may nest: the whole body may nest 127 deep.
+const DEPTH: usize = 126;
 
 // Whether a body is an error response. The buffer of the reader is as long as the body.
 pub(crate) fn tells_error(alloc: Global, body: &[u8]) -> Result<bool, AllocError>
@@ -52,7 +52,7 @@ fn object_tells_error(reader: &mut Reader<'_>) -> bool
 // Whether the next members are those of an error response. If so, the reader is then after their
 // closing brace.
 fn members_tell_error(reader: &mut Reader<'_>) -> bool
-    ensures { let told = told_in false (members (value 127) (length reader.old) reader.old) in
+    ensures { let told = told_in false (members (value 126) (length reader.old) reader.old) in
         MatchBool result (told ≡ Some (true, reader.new)) (is_told told ≡ false) }
 {
     let mut found = false;

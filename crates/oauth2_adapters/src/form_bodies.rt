@@ -1,7 +1,7 @@
 //! Bodies that are forms instead of JSON.
 
 ghost use Rattle.std.specs.Prelude.{◌≡◌, ◌∷◌, ◌++◌, [], map, option_map, codes, string_bytes};
-ghost use Rattle.std.specs.Prelude.{IfOk, OnOk};
+ghost use Rattle.std.specs.Prelude.{ℕ, List, not, ◌||◌, bytes_eq, IfOk, OnOk};
 ghost use Rattle.std.specs.Bool.{OnTrue};
 ghost use Rattle.std.specs.Str.Lossy.{utf8_lossy};
 ghost use Rattle.form_urlencoded.specs.Form.{decode as decoded};
@@ -10,10 +10,11 @@ ghost use Rattle.json.specs.Token.{key};
 ghost use Rattle.json.specs.Tree.{json_tokens};
 ghost use Rattle.oauth2_form.specs.Pairs.{form};
 ghost use Rattle.oauth2_wire.specs.ServerView.{pair_texts, shown_pair};
-ghost use Rattle.oauth2_adapters.specs.FormBodies.{form_members, form_object, form_value, has_pair};
+ghost use Rattle.oauth2_adapters.specs.FormBodies.{form_members, form_object, form_value};
 ghost use Rattle.oauth2_adapters.specs.FormBodies.{is_form, pairs_of, repeats};
 ghost use Rattle.oauth2_adapters.specs.Reply.{reply_values};
 ghost use Rattle.oauth2_adapters.specs.Rewriting.{object_text};
+ghost use Rattle.oauth2_adapters.specs.private.Names.{has_name};
 
 use crate::numbers_as_texts::is_digits;
 use crate::other_media_types::{as_json, has_type_of};
@@ -23,6 +24,7 @@ use form_urlencoded::{decode, raw_pairs};
 use json::Writer;
 use oauth2_wire::HttpResponse;
 use std::alloc::{AllocError, Global};
+use std::collections::BTreeSet;
 
 /// Turns a form into a JSON object. The token endpoint of GitHub replies with a form if no `Accept`
 /// is sent.
@@ -62,7 +64,7 @@ fn form_object(alloc: Global, body: &[u8]) -> Result<Option<Vec<u8>>, AllocError
         ≡ form_object (pairs_of body.now)) }
 {
     let pairs = read_form(alloc, body)?;
-    if repeats(&pairs) {
+    if repeats(alloc, &pairs)? {
         return Ok(None);
     }
     Ok(Some(object_of(alloc, body.len(), &pairs)?))
@@ -86,27 +88,29 @@ fn read_form(alloc: Global, body: &[u8]) -> Result<Vec<(String, String)>, AllocE
     Ok(pairs)
 }
 
-// Whether two pairs have the same name.
-fn repeats(pairs: &[(String, String)]) -> bool
-    ensures { result ≡ repeats (map pair_texts pairs.now) }
+// Whether two pairs have the same name. Each name is looked up once among those behind it, in a
+// tree: whatever the names are, n of them take some n times log n comparisons.
+fn repeats(alloc: Global, pairs: &[(String, String)]) -> Result<bool, AllocError>
+    ensures { IfOk result (λ found. found ≡ repeats (map pair_texts pairs.now)) }
 {
-    for index in 0..pairs.len() {
-        if has_pair(&pairs[index].0, &pairs[index + 1..]) {
-            return true;
+    let mut names: BTreeSet<&str> = BTreeSet::new(alloc);
+    let mut index = pairs.len();
+    while index > 0 {
+        index -= 1;
+        if !add_name(&mut names, pairs[index].0.as_str())? {
+            return Ok(true);
         }
     }
-    false
+    Ok(false)
 }
 
-fn has_pair(name: &str, pairs: &[(String, String)]) -> bool
-    ensures { result ≡ has_pair name.now (map pair_texts pairs.now) }
+// Adds a name. Returns whether it was not among them.
+fn add_name<'a>(names: &mut BTreeSet<&'a str>, name: &'a str) -> Result<bool, AllocError>
+    ensures added { IfOk result (λ added. added ≡ not (has_name names.old name.now)) }
+    ensures names { OnOk result ((other : List ℕ) → has_name names.new other
+        ≡ (bytes_eq name.now other || has_name names.old other)) }
 {
-    for pair in pairs {
-        if pair.0.as_str() == name {
-            return true;
-        }
-    }
-    false
+    Ok(names.insert(name)?)
 }
 
 fn object_of(alloc: Global, room: usize, pairs: &[(String, String)]) -> Result<Vec<u8>, AllocError>

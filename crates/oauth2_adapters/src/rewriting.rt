@@ -19,8 +19,8 @@ use json::{Error, Reader, Scratch, Writer};
 use oauth2_wire::HttpResponse;
 use std::alloc::{AllocError, Global};
 
-// How deep the value of a member may nest: the whole body may nest 128 deep.
-const DEPTH: usize = 127;
+// How deep the value of a member may nest: the whole body may nest 127 deep.
+const DEPTH: usize = 126;
 
 // A change to the members of an object.
 pub(crate) trait MemberChange {
@@ -154,7 +154,7 @@ fn write_members<M: MemberChange>(
 ) -> Result<Option<bool>, AllocError>
     ensures value { IfOk result (λ found.
         progress_in (M.change change.now) false writer.old.tokens
-        (members (value 127) (length reader.old) reader.old)
+        (members (value 126) (length reader.old) reader.old)
         ≡ option_map (λ changed. ((changed, writer.new.tokens), reader.new)) found) }
     ensures before { IfOk result (λ found.
         OnSome found (writer.new.before ≡ writer.old.before)) }

@@ -28,10 +28,10 @@ told_at_end (Some (told, t ∷ ts)) = false
 -- a value was read that can be in an error response under that name
 abbrev pub MayStandInError : List ℕ → List Token → List Token → Type 0
 MayStandInError name before after =
-    (j : Json) × (value 127 before ≡ Some (j, after)) × (length after < length before)
+    (j : Json) × (value 126 before ≡ Some (j, after)) × (length after < length before)
     × (is_no_error name j ≡ false) × (is_error name j ≡ bytes_eq name (codes "error"))
 
 -- any value that can be read under that name makes the body no error response
 abbrev pub StandsInNone : List ℕ → List Token → Type 0
 StandsInNone name before =
-    (j : Json) (after : List Token) → value 127 before ≡ Some (j, after) → is_no_error name j ≡ true
+    (j : Json) (after : List Token) → value 126 before ≡ Some (j, after) → is_no_error name j ≡ true

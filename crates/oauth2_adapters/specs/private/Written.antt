@@ -16,12 +16,12 @@ pub record WritesValue (becomes : Option Json) (value : Json) (changed : Bool) (
 -- what was written of a member whose name was read: the reader had the tokens `before` and then
 -- `after`, the writer was `old` and then `new`. `Some changed`: a value was read, and the member was
 -- written with what the value becomes, or with the value if it does not change. `None`: the tokens do
--- not begin with a value that fits. A body may nest 128 deep, and its object is one of them
+-- not begin with a value that fits. A body may nest 127 deep, and its object is one of them
 abbrev pub WritesMember : (Json → Option Json) → List ℕ → List Token → List Token → Written
     → Written → Option Bool → Type 0
-WritesMember becomes name before after old new None = value 127 before ≡ None
+WritesMember becomes name before after old new None = value 126 before ≡ None
 WritesMember becomes name before after old new (Some changed) =
-    (j : Json) × (value 127 before ≡ Some (j, after)) × (length after < length before) × (changed ≡ is_some (becomes j))
+    (j : Json) × (value 126 before ≡ Some (j, after)) × (length after < length before) × (changed ≡ is_some (becomes j))
     × (new.tokens ≡ old.tokens ++ Token.key name ∷ [] ++ json_tokens (unwrap_or (becomes j) j))
     × (new.before ≡ old.before)
 

@@ -33,7 +33,7 @@ members-preserved-then-found c =
       n - 1,
       omega (arith, l.invariant.1),
       l.invariant.2 ∙ told_member l.found n k l.reader s r stands.0 (omega (arith, l.invariant.1)) named stands.1 stands.3 stands.4
-          ∙ ap (λ f. told_in f (members (value 127) (n - 1) r)) same,
+          ∙ ap (λ f. told_in f (members (value 126) (n - 1) r)) same,
     )
 
 pub members-preserved : goal.members-preserved
@@ -51,7 +51,7 @@ members-preserved c =
       n - 1,
       omega (arith, l.invariant.1),
       l.invariant.2 ∙ told_member l.found n k l.reader s r stands.0 (omega (arith, l.invariant.1)) named stands.1 stands.3 stands.4
-          ∙ ap (λ f. told_in f (members (value 127) (n - 1) r)) same,
+          ∙ ap (λ f. told_in f (members (value 126) (n - 1) r)) same,
     )
 
 pub returns : goal.returns

@@ -59,7 +59,7 @@ returns-in-Ok-None-clause-value g c =
     let named : read_key l.reader ≡ Some (Some c.in-Some.name.now, s) = c.in-Ok.ensures.value ∙ ap (λ o. Some (option_map (λ b. b.now) o, s)) c.in-Some.is in
     let f = g.M.MemberChange.change c.args.change.now in
     let k = c.in-Some.name.now in
-    let none : value 127 s ≡ None = subst (λ o. WritesMember (f k) k s c.write_member.new.reader l.writer c.write_member.new.writer o) c.in-Ok-None.field-0-is c.in-Ok-None.ensures in
+    let none : value 126 s ≡ None = subst (λ o. WritesMember (f k) k s c.write_member.new.reader l.writer c.write_member.new.writer o) c.in-Ok-None.field-0-is c.in-Ok-None.ensures in
     l.invariant.2 ∙ no_member (g.M.MemberChange.change c.args.change.now) l.changed l.writer.tokens l.invariant.0 c.in-Some.name.now l.reader s named none
 
 pub returns-clause-value : goal.returns-clause-value

@@ -6,7 +6,7 @@ use Rattle.oauth2_adapters.proofs.rewriting.write_members.Given as goal
 abbrev pub invariant-members : goal.invariant-members
 invariant-members g l =
     (n : ℕ) × (length l.reader ≤ n)
-    × (progress_in (g.M.MemberChange.change l.change) false l.initial.writer.tokens (members (value 127) (length l.initial.reader) l.initial.reader) ≡ progress_in (g.M.MemberChange.change l.change) l.changed l.writer.tokens (members (value 127) n l.reader))
+    × (progress_in (g.M.MemberChange.change l.change) false l.initial.writer.tokens (members (value 126) (length l.initial.reader) l.initial.reader) ≡ progress_in (g.M.MemberChange.change l.change) l.changed l.writer.tokens (members (value 126) n l.reader))
     × (l.writer.before ≡ l.initial.writer.before)
 
 abbrev pub decreases-members : goal.decreases-members
