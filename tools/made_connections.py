@@ -74,7 +74,7 @@ class Connection:
 
     def __init__(self, messages=(), pieces=()):
         self.left, self.messages = collections.deque(pieces), list(messages)
-        self.read, self.requests, self.is_closed = [], [], False
+        self.read, self.requests, self.is_closed, self.is_silent = [], [], False, True
 
     def give(self, most):
         """The next piece, which is empty at the end."""
@@ -108,16 +108,17 @@ class Network:
         return len(octets)
 
     def reply(self, it, method, closes):
-        """Writes a reply, at times with bytes behind it that nobody asked for. A connection that is kept gets such bytes only in the piece
-        that has the end of the reply: those that come later are the next reply for every reader."""
+        """Writes a reply, at times with bytes behind it that nobody asked for: in the piece that has the end of the reply, or in later
+        ones, which wait before the next request."""
         message = self.rng.message(method, closes)
         pieces, ends_itself = self.rng.pieces(message.octets), method == 'HEAD' or self.rng.frame != 'close'
         if ends_itself and self.rng.may(.06):
             more = self.rng.message('GET').octets
             pieces[-1] += more[:self.rng.choice([1, 2, len(more), len(more)])]
             message = message._replace(keeps=False)
-        elif ends_itself and not message.keeps and self.rng.may(.5):
+        elif ends_itself and self.rng.may(.06 if message.keeps else .5):
             pieces += self.rng.pieces(self.rng.message('GET').octets)
+            it.is_silent = False
         it.messages.append(message)
         it.left.extend(pieces)
 
@@ -125,6 +126,9 @@ class Network:
         it = self.connections[number]
         assert not it.is_closed, 'it was closed'
         return it.give(most)
+
+    def is_silent(self, number):
+        return self.connections[number].is_silent
 
     def close(self, number):
         self.connections[number].is_closed = True

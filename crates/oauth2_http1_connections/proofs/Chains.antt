@@ -1,5 +1,5 @@
 -- Exchanges one after the other over one connection.
-use Rattle.std.proofs.Common.{◌≡◌, ℕ, Bool, true, false, not, ◌&&◌, List, [], ◌∷◌, ◌++◌, length, Option, None, Some, refl, sym, ap, ◌∙◌, subst, append-nil, append_assoc, arith}
+use Rattle.std.proofs.Common.{◌≡◌, ℕ, Bool, true, false, inl, inr, not, ◌&&◌, List, [], ◌∷◌, ◌++◌, length, Option, None, Some, refl, sym, ap, ◌∙◌, subst, append-nil, append_assoc, arith}
 use Rattle.std.specs.Prelude.{⊤, Result, IfSome, IsSome}
 use Rattle.std.specs.declared.io.Error.{Error}
 use Rattle.std.specs.Io.KnownBytes.{Appends, Keeps, Consumes}
@@ -16,7 +16,7 @@ use Rattle.oauth2_http1.specs.Origin.{Place}
 use Rattle.oauth2_http1.specs.Reply.{Terms, ReadsAfter, ReadsReply, IsResponseOf}
 use Rattle.oauth2_http1.specs.Message.{ReadsOnly}
 use Rattle.oauth2_wire.specs.Reply.{HttpResponse}
-use Rattle.oauth2_http1_connections.specs.Exchange.{Exchange, Leaves}
+use Rattle.oauth2_http1_connections.specs.Exchange.{LookedAt, IsReady, Exchange, Leaves}
 use Rattle.oauth2_http1_connections.specs.Law.{Asked, Carries, sent_bytes, read_bytes, AreKnown, ReadsLeave, BeginsWithReplies, TakesAll, BeginsWithRequests, seen_of}
 use Rattle.oauth2_http1_connections.proofs.Delimits.{reply_delimited}
 
@@ -45,35 +45,38 @@ one_reply t closes (Some stream) (Some after) response bytes more is took came =
     let used = append_cancel_right bytes d.0 came.rest (ap (λ xs. bytes ++ xs) (sym same) ∙ sym took ∙ d.1) in
     (came.reply, (came.reads.0, subst (λ xs. ReadsAfter t came.reads.0 (xs ++ more) came.reply more) (sym used) (d.2 more)), came.is)
 
-module _ {S : Type 0} (contents remaining : S → Option (List ℕ)) (reads writes : S → Result ℕ Error → S → Type 0)
+module _ {S : Type 0} (looks : S → Bool → S → Type 0) (contents remaining : S → Option (List ℕ)) (reads writes : S → Result ℕ Error → S → Type 0)
     (flushes : S → Result ⊤ Error → S → Type 0) (place : Place) where
-  pub replies : (all : List Asked) (before after : S) (carried : Carries contents remaining reads writes flushes place all before after) (more : List ℕ)
-      → AreKnown contents remaining reads writes flushes place all before after carried
-      → BeginsWithReplies all (read_bytes contents remaining reads writes flushes place all before after carried ++ more) more
-  replies [] before after carried more known = refl
-  replies (asked ∷ later) before after (mid, exchange, carried) more (is, known) =
-      let behind = read_bytes contents remaining reads writes flushes place later mid after carried in
+  abbrev Carried : Bool → List Asked → S → S → Type 0
+  Carried = Carries looks contents remaining reads writes flushes place
+
+  pub replies : (used : Bool) (all : List Asked) (before after : S) (carried : Carried used all before after) (more : List ℕ)
+      → AreKnown looks contents remaining reads writes flushes place used all before after carried
+      → BeginsWithReplies all (read_bytes looks contents remaining reads writes flushes place used all before after carried ++ more) more
+  replies used [] before after carried more known = refl
+  replies used (asked ∷ later) before after (ready, silent, mid, exchange, carried) more (is, known) =
+      let behind = read_bytes looks contents remaining reads writes flushes place true later mid after carried in
       let one = one_reply (reply_terms asked.bounds (head_of asked.request).method) _ (remaining exchange.sent) (remaining mid) asked.response exchange.within.0.bytes (behind ++ more) is exchange.within.0.taken exchange.came in (
         one.0,
         behind ++ more,
         subst (λ s. ReadsReply (reply_terms asked.bounds (head_of asked.request).method) s one.0 (behind ++ more)) (sym (append_assoc exchange.within.0.bytes behind more)) one.1,
         one.2,
-        replies later mid after carried more known,
+        replies true later mid after carried more known,
       )
 
-  pub requests : (limits : Limits) (all : List Asked) (before after : S) (carried : Carries contents remaining reads writes flushes place all before after) (more : List ℕ)
-      → TakesAll limits place all → BeginsWithRequests limits place all (sent_bytes contents remaining reads writes flushes place all before after carried ++ more) more
-  requests limits [] before after carried more takes = refl
-  requests limits (asked ∷ later) before after (mid, exchange, carried) more (head, takes) =
-      let behind = sent_bytes contents remaining reads writes flushes place later mid after carried in
+  pub requests : (limits : Limits) (used : Bool) (all : List Asked) (before after : S) (carried : Carried used all before after) (more : List ℕ)
+      → TakesAll limits place all → BeginsWithRequests limits place all (sent_bytes looks contents remaining reads writes flushes place used all before after carried ++ more) more
+  requests limits used [] before after carried more takes = refl
+  requests limits used (asked ∷ later) before after (ready, silent, mid, exchange, carried) more (head, takes) =
+      let behind = sent_bytes looks contents remaining reads writes flushes place true later mid after carried in
       let one = exchange.wrote.wire.read limits (behind ++ more) head in (
         behind ++ more,
         subst (λ s. ReadsOnly limits s (seen_of place asked) (behind ++ more)) (sym (append_assoc exchange.wrote.bytes behind more)) one,
-        requests limits later mid after carried more takes,
+        requests limits true later mid after carried more takes,
       )
 
   -- reads leave what was written
-  made_leave : ReadsLeave contents remaining reads writes flushes place → (rs : List (Result ℕ Error)) (before after : S) → Made reads rs before after → Keeps (contents before) (contents after)
+  made_leave : ReadsLeave looks contents remaining reads writes flushes place → (rs : List (Result ℕ Error)) (before after : S) → Made reads rs before after → Keeps (contents before) (contents after)
   made_leave leave [] before after same = subst (λ s. Keeps (contents before) (contents s)) (sym same) (keeps_same (contents before))
     where
       keeps_same : (known : Option (List ℕ)) → Keeps known known
@@ -92,20 +95,33 @@ module _ {S : Type 0} (contents remaining : S → Option (List ℕ)) (reads writ
   appends_none None = tt
   appends_none (Some x) = sym (append-nil x)
 
-  pub written : ReadsLeave contents remaining reads writes flushes place → (all : List Asked) (before after : S) (carried : Carries contents remaining reads writes flushes place all before after)
-      → Appends (contents before) (contents after) (sent_bytes contents remaining reads writes flushes place all before after carried)
-  written leave [] before after same = subst (λ s. Appends (contents before) (contents s) []) (sym same) (appends_none (contents before))
-  written leave (asked ∷ later) before after (mid, exchange, carried) =
-      let (rs, going, made) = exchange.went in
-      Appends-trans (contents before) (contents mid) (contents after) _ _
-      (appends_kept _ _ _ exchange.wrote.bytes exchange.wrote.written (made_leave leave rs exchange.sent mid made))
-      (written leave later mid after carried)
+  -- what was written before a connection was made ready is all that was written
+  pub ready_written : (used : Bool) (before ready : S) → IsReady looks contents remaining used before ready → contents ready ≡ contents before
+  ready_written true before ready looked = looked.written
+  ready_written false before ready (inl same) = ap contents same
+  ready_written false before ready (inr looked) = looked.written
 
-  -- one exchange more
-  pub carries_more : (all : List Asked) (asked : Asked) (before mid after : S) → Carries contents remaining reads writes flushes place all before mid
-      → Exchange contents remaining reads writes flushes asked.agent asked.bounds place asked.request mid asked.response true after
-      → Carries contents remaining reads writes flushes place (all ++ asked ∷ []) before after
-  carries_more [] asked before mid after same exchange =
-      (after, subst (λ s. Exchange contents remaining reads writes flushes asked.agent asked.bounds place asked.request s asked.response true after) same exchange, refl)
-  carries_more (first ∷ later) asked before mid after (next, begun, carried) exchange =
-      (next, begun, carries_more later asked next mid after carried exchange)
+  pub written : ReadsLeave looks contents remaining reads writes flushes place → (used : Bool) (all : List Asked) (before after : S) (carried : Carried used all before after)
+      → Appends (contents before) (contents after) (sent_bytes looks contents remaining reads writes flushes place used all before after carried)
+  written leave used [] before after same = subst (λ s. Appends (contents before) (contents s) []) (sym same) (appends_none (contents before))
+  written leave used (asked ∷ later) before after (ready, silent, mid, exchange, carried) =
+      let (rs, going, made) = exchange.went in
+      let wrote = subst (λ c. Appends c (contents exchange.sent) exchange.wrote.bytes) (ready_written used before ready silent) exchange.wrote.written in
+      Appends-trans (contents before) (contents mid) (contents after) _ _
+      (appends_kept _ _ _ exchange.wrote.bytes wrote (made_leave leave rs exchange.sent mid made))
+      (written leave true later mid after carried)
+
+  -- a connection that is silent is ready
+  pub looked_ready : (used : Bool) (before ready : S) → LookedAt looks contents remaining true before ready → IsReady looks contents remaining used before ready
+  looked_ready true before ready looked = looked
+  looked_ready false before ready looked = inr looked
+
+  -- one exchange more, on a connection that is silent
+  pub carries_more : (used : Bool) (all : List Asked) (asked : Asked) (before mid ready after : S) → Carried used all before mid
+      → LookedAt looks contents remaining true mid ready
+      → Exchange contents remaining reads writes flushes asked.agent asked.bounds place asked.request ready asked.response true after
+      → Carried used (all ++ asked ∷ []) before after
+  carries_more used [] asked before mid ready after same looked exchange =
+      (ready, looked_ready used before ready (subst (λ s. LookedAt looks contents remaining true s ready) same looked), after, exchange, refl)
+  carries_more used (first ∷ later) asked before mid ready after (begun, silent, next, one, carried) looked exchange =
+      (begun, silent, next, one, carries_more true later asked next mid ready after carried looked exchange)

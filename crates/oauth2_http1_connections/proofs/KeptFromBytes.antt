@@ -25,7 +25,7 @@ use Rattle.oauth2_http1.specs.Message.{kept_fields}
 use Rattle.oauth2_http1.specs.Origin.{Place}
 use Rattle.oauth2_http1.specs.Reply.{Terms, IsResponseOf}
 use Rattle.oauth2_http1.proofs.Replies.{reply_unique}
-use Rattle.oauth2_http1_connections.specs.Client.{agent_of, IsSetAs, CannotSend, GetsNoReply, Calls}
+use Rattle.oauth2_http1_connections.specs.Client.{agent_of, IsSetAs, CannotSend, GetsReady, GetsNoReply, Calls}
 use Rattle.oauth2_http1_connections.specs.Exchange.{Writes, Leaves}
 use Rattle.oauth2_http1_connections.specs.Method.{is_idempotent}
 use Rattle.oauth2_http1_connections.specs.Law.{EachHasHistory}
@@ -72,17 +72,17 @@ not_again : (c : Configuration) (text : List ℕ) (request : HttpRequest) (again
     → again ≡ is_idempotent (head_of request).method → again ≡ false
 not_again c text request again is told = told ∙ ap is_idempotent is.method
 
-module _ {C S E D A T X : Type 0} (opens : C → Place → Result S E → C → Type 0) (contents remaining : S → Option (List ℕ))
+module _ {C S E D A T X : Type 0} (opens : C → Place → Result S E → C → Type 0) (looks : S → Bool → S → Type 0) (contents remaining : S → Option (List ℕ))
     (reads writes : S → Result ℕ Io.Error → S → Type 0) (flushes : S → Result ⊤ Io.Error → S → Type 0) (c : Configuration) (text : List ℕ) (meaning : D → A) (error_meaning : T → X) (says : ReplyView → Answer A X) (before after : KeepAliveClient C S) where
   abbrev Over : Result D (RequestTokenError (KeepAliveError E) T) → Type 0
-  Over result = FromKeptBytes opens contents remaining reads writes flushes c text meaning error_meaning says before result after
+  Over result = FromKeptBytes opens looks contents remaining reads writes flushes c text meaning error_meaning says before result after
 
   abbrev CameTo : (ReplyView → Type 0) → Type 0
-  CameTo Says = Replied opens contents remaining reads writes flushes c text before after Says
+  CameTo Says = Replied opens looks contents remaining reads writes flushes c text before after Says
 
   -- the client's one step with the request
   abbrev Steps : HttpRequest → Result HttpResponse (KeepAliveError E) → Type 0
-  Steps request answer = Calls opens contents remaining reads writes flushes before request answer after
+  Steps request answer = Calls opens looks contents remaining reads writes flushes before request answer after
 
   -- what the reply says, by the result
   of_reply : (result : Result D (RequestTokenError (KeepAliveError E) T)) → CameTo (λ view. ShowsAnswer meaning error_meaning (says view) result) → Over result
@@ -102,12 +102,13 @@ module _ {C S E D A T X : Type 0} (opens : C → Place → Result S E → C → 
       let shown : false ≡ true = came.says in cc
   of_reply (Err (token.Request error)) came = absurd came.says
 
-  configured : (request : HttpRequest) (place : Place) (stream sent : S) (wrote : Writes contents remaining reads writes flushes (agent_of before) before.bounds place request stream sent)
-      → IsRequestOf c text (view_of request) → IsConfigured opens contents remaining reads writes flushes c text before request place stream sent wrote
-  configured request place stream sent wrote is = record {
+  configured : (request : HttpRequest) (place : Place) (used : Bool) (stream sent : S) (gets : GetsReady opens looks contents remaining place before used stream after)
+      (wrote : Writes contents remaining reads writes flushes (agent_of before) before.bounds place request stream sent)
+      → IsRequestOf c text (view_of request) → IsConfigured opens looks contents remaining reads writes flushes c text before request place gets.taken stream sent wrote
+  configured request place used stream sent gets wrote is = record {
     is = is;
     read_as = carried c text (agent_of before) request place wrote.bytes is wrote.wire;
-    follows = follows opens contents remaining reads writes flushes (agent_of before) before request place stream sent wrote;
+    follows = follows opens looks contents remaining reads writes flushes (agent_of before) before request place used gets.taken stream sent gets.ready wrote;
   }
 
   replied : (request : HttpRequest) (reply : HttpResponse) (result : Result D (RequestTokenError (KeepAliveError E) T)) → IsRequestOf c text (view_of request)
@@ -116,26 +117,26 @@ module _ {C S E D A T X : Type 0} (opens : C → Place → Result S E → C → 
     request = request;
     response = reply;
     answers = did;
-    configured = configured request did.place did.stream did.exchange.sent did.exchange.wrote is;
+    configured = configured request did.place did.used did.stream did.exchange.sent did.gets did.exchange.wrote is;
     says = shown;
     came = subst (λ method. IfSome (remaining did.exchange.sent) (BeginsWith (reply_terms before.bounds method) (reply_of reply))) is.method
         (begins (reply_terms before.bounds (head_of request).method) _ did.kept (remaining did.exchange.sent) (remaining did.left) reply did.exchange.came);
   })
 
   unanswered : (request : HttpRequest) (f : ReplyFault) (used came : Bool) → IsRequestOf c text (view_of request)
-      → GetsNoReply opens contents remaining reads writes flushes before request f used came after
-      → Unread opens contents remaining reads writes flushes c text before f used came after
+      → GetsNoReply opens looks contents remaining reads writes flushes before request f used came after
+      → Unread opens looks contents remaining reads writes flushes c text before f used came after
   unanswered request f used came is none = record {
     request = request;
     gets_none = none;
-    configured = configured request none.place none.stream none.sent none.wrote is;
+    configured = configured request none.place used none.stream none.sent none.gets none.wrote is;
   }
 
   -- the client failed
   failed : (request : HttpRequest) (error : KeepAliveError E) → IsRequestOf c text (view_of request)
-      → Steps request (Err error) → NotReplied opens contents remaining reads writes flushes c text before error after
+      → Steps request (Err error) → NotReplied opens looks contents remaining reads writes flushes c text before error after
   failed request (Http1 (Error.Request f)) is did = (did.0, did.1, request, is, cannot_post c text (agent_of before) request f is did.2)
-  failed request (Http1 (Error.Connect error)) is did = (did.3, request, is, did.0, did.1, did.2)
+  failed request (Http1 (Error.Connect error)) is did = (request, is, did.0, did.1, did.2, did.3)
   failed request (Http1 (Error.Write error)) is did = (request, is, did)
   failed request (Http1 (Error.Reply f)) is did = (did.0, did.1, did.2, unanswered request f did.0 did.1 is did.3)
   failed request (Unanswered (Error.Request f) again) is did = absurd did
@@ -144,10 +145,10 @@ module _ {C S E D A T X : Type 0} (opens : C → Place → Result S E → C → 
   failed request (Unanswered (Error.Reply f) again) is did = (not_again c text request again is did.0, unanswered request f true false is did.1)
 
   abbrev Comes : Result D (RequestTokenError (KeepAliveError E) T) → Type 0
-  Comes result = KeptResult opens contents remaining reads writes flushes c text meaning error_meaning says before result after
+  Comes result = KeptResult opens looks contents remaining reads writes flushes c text meaning error_meaning says before result after
 
   abbrev Histories : KeepAliveClient C S → Type 0
-  Histories client = EachHasHistory opens contents remaining reads writes flushes client
+  Histories client = EachHasHistory opens looks contents remaining reads writes flushes client
 
   -- after a step of the client
   stepped : (request : HttpRequest) (answer : Result HttpResponse (KeepAliveError E)) (result : Result D (RequestTokenError (KeepAliveError E) T))
@@ -155,7 +156,7 @@ module _ {C S E D A T X : Type 0} (opens : C → Place → Result S E → C → 
   stepped request answer result set did over = record {
     bytes = over;
     set = set;
-    histories = λ each. (keeps_histories opens contents remaining reads writes flushes before request answer after each did).kept;
+    histories = λ each. (keeps_histories opens looks contents remaining reads writes flushes before request answer after each did).kept;
   }
 
   -- the client was not called
@@ -172,9 +173,9 @@ module _ {C S E D A T X : Type 0} (opens : C → Place → Result S E → C → 
 
   pub from_kept_bytes : (result : Result D (RequestTokenError (KeepAliveError E) T))
       → AsksOnce meaning error_meaning
-      (λ old request answer new. IsSetAs old new × Calls opens contents remaining reads writes flushes old request answer new)
+      (λ old request answer new. IsSetAs old new × Calls opens looks contents remaining reads writes flushes old request answer new)
       says (IsRequestOf c) text before result after
-      → KeptResult opens contents remaining reads writes flushes c text meaning error_meaning says before result after
+      → KeptResult opens looks contents remaining reads writes flushes c text meaning error_meaning says before result after
   from_kept_bytes result (Ok request, is, target, (Ok reply, (set, did), shown)) =
       stepped request (Ok reply) result set did (replied request reply result is did shown)
   from_kept_bytes result (Ok request, is, target, (Err error, (set, did), shown)) =

@@ -1,8 +1,9 @@
 -- One exchange behind those that a connection carried since it was opened.
-use Rattle.std.proofs.Common.{ℕ, Bool, List, [], ◌∷◌, ◌++◌, Option, None, Some, refl, sym, subst, append_assoc}
+use Rattle.std.proofs.Common.{ℕ, Bool, false, List, [], ◌∷◌, ◌++◌, Option, None, Some, refl, sym, subst, append_assoc}
 use Rattle.std.specs.Prelude.{⊤, Result, IfSome}
 use Rattle.std.specs.List.{AllByRecursion}
 use Rattle.std.specs.declared.io.Error as Io
+use Rattle.std.specs.Io.KnownBytes.{Appends}
 use Rattle.std.proofs.KnownBytes.{Appends-trans}
 use Rattle.http.specs.Request.{head_of}
 use Rattle.http1.specs.declared.conn.Limits.{Limits}
@@ -14,10 +15,10 @@ use Rattle.oauth2_http1.specs.Reply.{ReadsReply, IsResponseOf}
 use Rattle.oauth2_wire.specs.Request.{HttpRequest}
 use Rattle.oauth2_wire.specs.Reply.{HttpResponse}
 use Rattle.oauth2_http1_connections.specs.Client.{agent_of, Answers}
-use Rattle.oauth2_http1_connections.specs.Exchange.{Writes, Leaves}
+use Rattle.oauth2_http1_connections.specs.Exchange.{IsReady, Writes, Leaves}
 use Rattle.oauth2_http1_connections.specs.Law.{Asked, asked_of, BeginsWithReplies, BeginsWithRequests, seen_of, HasHistory, Follows, IsNext}
 use Rattle.oauth2_http1_connections.specs.Law.{written_since, read_since}
-use Rattle.oauth2_http1_connections.proofs.Chains.{replies, requests, written}
+use Rattle.oauth2_http1_connections.proofs.Chains.{replies, requests, ready_written, written}
 use Rattle.oauth2_http1_connections.specs.declared.client.KeepAliveClient.{KeepAliveClient}
 
 all_before : {A : Type 0} (P : A → Type 0) (xs : List A) (x : A) → AllByRecursion P (xs ++ x ∷ []) → AllByRecursion P xs × P x
@@ -52,30 +53,31 @@ next_replies all asked front closes kept None left begun came = tt
 next_replies all asked front closes kept (Some stream) left begun came =
     (came.rest, one_more_reply all asked (front ++ stream) stream came.rest came.reply begun came.reads came.is)
 
-module _ {C S E : Type 0} (opens : C → Place → Result S E → C → Type 0) (contents remaining : S → Option (List ℕ))
+module _ {C S E : Type 0} (opens : C → Place → Result S E → C → Type 0) (looks : S → Bool → S → Type 0) (contents remaining : S → Option (List ℕ))
     (reads writes : S → Result ℕ Io.Error → S → Type 0) (flushes : S → Result ⊤ Io.Error → S → Type 0) where
-  pub follows : (agent : Option (List ℕ)) (before : KeepAliveClient C S) (request : HttpRequest) (place : Place) (stream sent : S)
+  pub follows : (agent : Option (List ℕ)) (before : KeepAliveClient C S) (request : HttpRequest) (place : Place) (used : Bool) (taken stream sent : S)
+      → IsReady looks contents remaining used taken stream →
       (wrote : Writes contents remaining reads writes flushes agent before.bounds place request stream sent)
-      (history : HasHistory opens contents remaining reads writes flushes place stream)
-      → Follows opens contents remaining reads writes flushes place stream history wrote.bytes sent
-  follows agent before request place stream sent wrote history =
+      (history : HasHistory opens looks contents remaining reads writes flushes place taken)
+      → Follows opens looks contents remaining reads writes flushes place taken history wrote.bytes sent
+  follows agent before request place used taken stream sent ready wrote history =
       let all = history.exchanges in
-      let earlier = written_since opens contents remaining reads writes flushes place stream history in
+      let earlier = written_since opens looks contents remaining reads writes flushes place taken history in
       record {
-        written = λ leave. Appends-trans (contents history.opened) (contents stream) (contents sent) _ _
-            (written contents remaining reads writes flushes place leave all history.opened stream history.carried)
-            wrote.written;
+        written = λ leave. Appends-trans (contents history.opened) (contents taken) (contents sent) _ _
+            (written looks contents remaining reads writes flushes place leave false all history.opened taken history.carried)
+            (subst (λ c. Appends c (contents sent) wrote.bytes) (ready_written looks contents remaining reads writes flushes place used taken stream ready) wrote.written);
         requests = λ limits more takes. subst (λ s. BeginsWithRequests limits place all s (wrote.bytes ++ more))
             (sym (append_assoc earlier wrote.bytes more))
-            (requests contents remaining reads writes flushes place limits all history.opened stream history.carried (wrote.bytes ++ more) takes);
+            (requests looks contents remaining reads writes flushes place limits false all history.opened taken history.carried (wrote.bytes ++ more) takes);
         replies = λ known. if_some _ (remaining sent)
-            (λ rest. replies contents remaining reads writes flushes place all history.opened stream history.carried rest known);
+            (λ rest. replies looks contents remaining reads writes flushes place false all history.opened taken history.carried rest known);
       }
 
   pub is_next : (before after : KeepAliveClient C S) (request : HttpRequest) (response : HttpResponse)
-      (did : Answers opens contents remaining reads writes flushes before request response after)
-      (history : HasHistory opens contents remaining reads writes flushes did.place did.stream)
-      → IsNext opens contents remaining reads writes flushes did.place did.stream history
+      (did : Answers opens looks contents remaining reads writes flushes before request response after)
+      (history : HasHistory opens looks contents remaining reads writes flushes did.place did.gets.taken)
+      → IsNext opens looks contents remaining reads writes flushes did.place did.gets.taken history
       (asked_of before request response)
       did.exchange.wrote.bytes did.exchange.sent
   is_next before after request response did history =
@@ -83,12 +85,12 @@ module _ {C S E : Type 0} (opens : C → Place → Result S E → C → Type 0) 
       let place = did.place in
       let wrote = did.exchange.wrote in
       let all = history.exchanges in
-      let behind = follows (agent_of before) before request place did.stream did.exchange.sent wrote history in
+      let behind = follows (agent_of before) before request place did.used did.gets.taken did.stream did.exchange.sent did.gets.ready wrote history in
       record {
         follows = behind;
         requests = λ limits more takes.
             let parts = all_before _ all asked takes in
             one_more_request limits place all asked _ (wrote.bytes ++ more) more (behind.requests limits more parts.0) (wrote.wire.read limits more parts.1);
-        replies = λ known. next_replies all asked (read_since opens contents remaining reads writes flushes place did.stream history) _ did.kept
+        replies = λ known. next_replies all asked (read_since opens looks contents remaining reads writes flushes place did.gets.taken history) _ did.kept
             (remaining did.exchange.sent) (remaining did.left) (behind.replies known) did.exchange.came;
       }

@@ -1,5 +1,5 @@
 -- The steps of one call.
-use Rattle.std.proofs.Common.{◌≡◌, ℕ, ◌<◌, Bool, true, false, not, ◌&&◌, eqb, List, ◌∷◌, length, take, Option, None, Some, Ok, Err, refl, sym, ap, ◌∙◌, subst}
+use Rattle.std.proofs.Common.{◌≡◌, ℕ, ◌<◌, Bool, true, false, inl, inr, not, ◌&&◌, eqb, List, ◌∷◌, length, take, Option, None, Some, Ok, Err, refl, sym, ap, ◌∙◌, subst}
 use Rattle.std.specs.Prelude.{⊤, Result, IfSome}
 use Rattle.std.specs.declared.io.Error as Io
 use Rattle.http.specs.Request.{head_of}
@@ -18,7 +18,7 @@ use Rattle.oauth2_http1.specs.declared.kept.ReplyRead.{ReplyRead}
 use Rattle.oauth2_http1.specs.Kept.{TakesReply, keeps_connection}
 use Rattle.oauth2_http1.specs.Origin.{Place, NamesNoPlace}
 use Rattle.oauth2_http1.specs.Reply.{Terms}
-use Rattle.oauth2_http1_connections.specs.Client.{IsSetAs, CannotSend, Gets, FailsToOpen, HoldsAfter, GetsNoReply, FailsToWrite, Calls}
+use Rattle.oauth2_http1_connections.specs.Client.{IsSetAs, CannotSend, IsSilent, HasNoSilent, GetsReady, FailsToOpen, HoldsAfter, GetsNoReply, FailsToWrite, Calls}
 use Rattle.oauth2_http1_connections.specs.Exchange.{Leaves}
 use Rattle.oauth2_http1_connections.specs.Idle.{text_of, find, without}
 use Rattle.oauth2_http1_connections.specs.Method.{is_idempotent}
@@ -61,18 +61,41 @@ no_reply bounds now method t fault known same terms refused cause spent_bytes sp
   fields = λ is. subst (λ x. longest_name < x.limits.max_head_len) terms (fields is);
 }
 
-module _ {C S E : Type 0} (opens : C → Place → Result S E → C → Type 0) where
+module _ {C S E : Type 0} (opens : C → Place → Result S E → C → Type 0) (looks : S → Bool → S → Type 0) (contents remaining : S → Option (List ℕ)) where
+  none_silent : (place : Place) (before mid : KeepAliveClient C S) → mid.idle.kept.items ≡ before.idle.kept.items → HasNoSilent looks contents remaining place mid
+      → HasNoSilent looks contents remaining place before
+  none_silent place before mid kept (inl none) = inl (ap (find place) (sym kept) ∙ none)
+  none_silent place before mid kept (inr (idle, left, found, looked)) = inr (idle, left, ap (find place) (sym kept) ∙ found, looked)
+
+  -- the idle connection, which was looked at
+  pub gets_silent : (place : Place) (before next : KeepAliveClient C S) (stream : S) → next.connect ≡ before.connect → IsSilent looks contents remaining place before stream
+      → GetsReady opens looks contents remaining place before true stream next
+  gets_silent place before next stream same (idle, found, looked) = record { taken = idle; gets = (found, same); ready = looked }
+
+  -- a connection that was opened
+  pub gets_opened : (place : Place) (before mid next : KeepAliveClient C S) (stream : S) → mid.connect ≡ before.connect → HasNoSilent looks contents remaining place before
+      → opens mid.connect place (Ok stream) next.connect → GetsReady opens looks contents remaining place before false stream next
+  gets_opened place before mid next stream same none opened =
+      record { taken = stream; gets = (none, subst (λ c. opens c place (Ok stream) next.connect) same opened); ready = inl refl }
+
   -- what is taken after the client made room for one more connection
   pub gets_from : (place : Place) (before mid next after : KeepAliveClient C S) (used : Bool) (stream : S) → mid.idle.kept.items ≡ before.idle.kept.items
-      → mid.connect ≡ before.connect → after.connect ≡ next.connect → Gets opens place mid used stream next → Gets opens place before used stream after
-  gets_from place before mid next after true stream kept same last (found, stays) = (ap (find place) (sym kept) ∙ found, last ∙ stays ∙ same)
-  gets_from place before mid next after false stream kept same last (none, opened) =
-      (ap (find place) (sym kept) ∙ none, subst (λ c. opens c place (Ok stream) after.connect) same (subst (opens mid.connect place (Ok stream)) (sym last) opened))
+      → mid.connect ≡ before.connect → after.connect ≡ next.connect → GetsReady opens looks contents remaining place mid used stream next → GetsReady opens looks contents remaining place before used stream after
+  gets_from place before mid next after true stream kept same last got =
+      record { taken = got.taken; gets = (ap (find place) (sym kept) ∙ got.gets.0, last ∙ got.gets.1 ∙ same); ready = got.ready }
+  gets_from place before mid next after false stream kept same last got = record {
+    taken = got.taken;
+    gets = (
+      none_silent place before mid kept got.gets.0,
+      subst (λ c. opens c place (Ok got.taken) after.connect) same (subst (opens mid.connect place (Ok got.taken)) (sym last) got.gets.1),
+    );
+    ready = got.ready;
+  }
 
   pub opens_none : (place : Place) (before mid next : KeepAliveClient C S) (error : E) → mid.idle.kept.items ≡ before.idle.kept.items
-      → mid.connect ≡ before.connect → FailsToOpen opens place mid error next → FailsToOpen opens place before error next
+      → mid.connect ≡ before.connect → FailsToOpen opens looks contents remaining place mid error next → FailsToOpen opens looks contents remaining place before error next
   opens_none place before mid next error kept same (none, failed) =
-      (ap (find place) (sym kept) ∙ none, subst (λ c. opens c place (Err error) next.connect) same failed)
+      (none_silent place before mid kept none, subst (λ c. opens c place (Err error) next.connect) same failed)
 
 module _ {C S : Type 0} where
   pub set_trans : (a b c : KeepAliveClient C S) → IsSetAs a b → IsSetAs b c → IsSetAs a c
@@ -89,15 +112,15 @@ module _ {C S : Type 0} where
   holds place before after own stream true is kept dropped = (own, is, kept refl)
   holds place before after own stream false is kept dropped = dropped refl
 
-module _ {C S E : Type 0} (opens : C → Place → Result S E → C → Type 0) (contents remaining : S → Option (List ℕ))
+module _ {C S E : Type 0} (opens : C → Place → Result S E → C → Type 0) (looks : S → Bool → S → Type 0) (contents remaining : S → Option (List ℕ))
     (reads writes : S → Result ℕ Io.Error → S → Type 0) (flushes : S → Result ⊤ Io.Error → S → Type 0) (before after : KeepAliveClient C S) (request : HttpRequest) (again : Bool) (is : again ≡ is_idempotent (head_of request).method) where
-  pub write_told : (error : Io.Error) (used : Bool) → FailsToWrite opens contents remaining reads writes flushes before request error used after
-      → Calls opens contents remaining reads writes flushes before request (Err (told_as used again (Error.Write error))) after
+  pub write_told : (error : Io.Error) (used : Bool) → FailsToWrite opens looks contents remaining reads writes flushes before request error used after
+      → Calls opens looks contents remaining reads writes flushes before request (Err (told_as used again (Error.Write error))) after
   write_told error true fails = (is, fails)
   write_told error false fails = fails
 
-  pub fault_told : (fault : ReplyFault) (used came : Bool) → GetsNoReply opens contents remaining reads writes flushes before request fault used came after
-      → Calls opens contents remaining reads writes flushes before request (Err (told_as (used && not came) again (Error.Reply fault))) after
+  pub fault_told : (fault : ReplyFault) (used came : Bool) → GetsNoReply opens looks contents remaining reads writes flushes before request fault used came after
+      → Calls opens looks contents remaining reads writes flushes before request (Err (told_as (used && not came) again (Error.Reply fault))) after
   fault_told fault true true fails = (true, true, (λ same. refl), fails)
   fault_told fault true false fails = (is, fails)
   fault_told fault false came fails = (false, came, (λ same. let no : false ≡ true = same in cc), fails)

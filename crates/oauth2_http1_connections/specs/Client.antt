@@ -1,6 +1,6 @@
 -- What one call of the client does: the connection that it takes, the bytes that it writes, the
 -- reply that it reads, and the connections that it holds afterwards.
-use Rattle.std.specs.Prelude.{◌≡◌, ℕ, Bool, true, false, ⊤, List, ◌∷◌, take, Option, Some, None, option_map, Result, Ok, Err}
+use Rattle.std.specs.Prelude.{◌≡◌, ℕ, Bool, true, false, ◌⊎◌, ⊤, List, ◌∷◌, take, Option, Some, None, option_map, Result, Ok, Err}
 use Rattle.std.specs.declared.io.Error as Io
 use Rattle.http.specs.Request.{head_of}
 use Rattle.oauth2_wire.specs.Request.{HttpRequest}
@@ -15,7 +15,7 @@ use Rattle.oauth2_http1.specs.Kept.{ReadsAny}
 use Rattle.oauth2_http1.specs.Message.{IsKeptWire}
 use Rattle.oauth2_http1.specs.Origin.{Place, IsPlaceOf, NamesNoPlace}
 use Rattle.oauth2_http1.specs.Unsent.{UnsentKept}
-use Rattle.oauth2_http1_connections.specs.Exchange.{Writes, Exchange}
+use Rattle.oauth2_http1_connections.specs.Exchange.{LookedAt, IsReady, Writes, Exchange}
 use Rattle.oauth2_http1_connections.specs.Idle.{text_of, find, without}
 use Rattle.oauth2_http1_connections.specs.Method.{is_idempotent}
 use Rattle.oauth2_http1_connections.specs.declared.client.KeepAliveClient.{KeepAliveClient}
@@ -47,20 +47,41 @@ pub record CanSend (agent : Option (List ℕ)) (request : HttpRequest) (place : 
   pub bytes : List ℕ
   pub wire : IsKeptWire agent place request bytes
 
-module _ {C S E : Type 0} (opens : C → Place → Result S E → C → Type 0) where
+module _ {C S : Type 0} (looks : S → Bool → S → Type 0) (contents remaining : S → Option (List ℕ)) where
+  -- the idle connection to the place was looked at, and is silent
+  abbrev pub IsSilent : Place → KeepAliveClient C S → S → Type 0
+  IsSilent place before stream =
+      (idle : S) × (find place before.idle.kept.items ≡ Some idle)
+      × LookedAt looks contents remaining true idle stream
+
+  -- no connection to the place is idle, or that one was looked at and is not silent
+  abbrev pub HasNoSilent : Place → KeepAliveClient C S → Type 0
+  HasNoSilent place before =
+      (find place before.idle.kept.items ≡ None)
+      ⊎ ((idle : S) × (left : S) × (find place before.idle.kept.items ≡ Some idle)
+      × LookedAt looks contents remaining false idle left)
+
+module _ {C S E : Type 0} (opens : C → Place → Result S E → C → Type 0) (looks : S → Bool → S → Type 0) (contents remaining : S → Option (List ℕ)) where
   -- the connection for a place: the idle one to it, which was used before, or else one that the
   -- connector opens
   abbrev pub Gets : Place → KeepAliveClient C S → Bool → S → KeepAliveClient C S → Type 0
-  Gets place before true stream after =
-      (find place before.idle.kept.items ≡ Some stream) × (after.connect ≡ before.connect)
-  Gets place before false stream after =
-      (find place before.idle.kept.items ≡ None)
-      × opens before.connect place (Ok stream) after.connect
+  Gets place before true taken after =
+      (find place before.idle.kept.items ≡ Some taken) × (after.connect ≡ before.connect)
+  Gets place before false taken after =
+      HasNoSilent looks contents remaining place before
+      × opens before.connect place (Ok taken) after.connect
 
-  -- no connection to the place is idle, and the connector opens none
+  -- the connection that a request is written to; just before, one that was used told that it is
+  -- silent
+  pub record GetsReady (place : Place) (before : KeepAliveClient C S) (used : Bool) (stream : S) (after : KeepAliveClient C S) : Type 0 where
+    pub taken : S
+    pub gets : Gets place before used taken after
+    pub ready : IsReady looks contents remaining used taken stream
+
+  -- no connection to the place is idle and silent, and the connector opens none
   abbrev pub FailsToOpen : Place → KeepAliveClient C S → E → KeepAliveClient C S → Type 0
   FailsToOpen place before error after =
-      (find place before.idle.kept.items ≡ None)
+      HasNoSilent looks contents remaining place before
       × opens before.connect place (Err error) after.connect
 
 -- the idle connections after a call: if the connection is kept, it comes first, and those used
@@ -73,14 +94,14 @@ HoldsAfter place before stream true after =
 HoldsAfter place before stream false after =
     after.idle.kept.items ≡ without place before.idle.kept.items
 
-module _ {C S E : Type 0} (opens : C → Place → Result S E → C → Type 0) (contents remaining : S → Option (List ℕ))
+module _ {C S E : Type 0} (opens : C → Place → Result S E → C → Type 0) (looks : S → Bool → S → Type 0) (contents remaining : S → Option (List ℕ))
     (reads writes : S → Result ℕ Io.Error → S → Type 0) (flushes : S → Result ⊤ Io.Error → S → Type 0) where
   -- a reply was read
   pub record Answers (before : KeepAliveClient C S) (request : HttpRequest) (response : HttpResponse) (after : KeepAliveClient C S) : Type 0 where
     pub place : Place
     pub used : Bool
     pub stream : S
-    pub gets : Gets opens place before used stream after
+    pub gets : GetsReady opens looks contents remaining place before used stream after
     pub kept : Bool
     pub left : S
     pub exchange : Exchange contents remaining reads writes flushes (agent_of before) before.bounds place request stream response kept left
@@ -91,7 +112,7 @@ module _ {C S E : Type 0} (opens : C → Place → Result S E → C → Type 0) 
   pub record GetsNoReply (before : KeepAliveClient C S) (request : HttpRequest) (fault : ReplyFault) (used came : Bool) (after : KeepAliveClient C S) : Type 0 where
     pub place : Place
     pub stream : S
-    pub gets : Gets opens place before used stream after
+    pub gets : GetsReady opens looks contents remaining place before used stream after
     pub sent : S
     pub wrote : Writes contents remaining reads writes flushes (agent_of before) before.bounds place request stream sent
     pub no_reply : NoReply fault before.bounds (head_of request).method (remaining sent)
@@ -105,7 +126,7 @@ module _ {C S E : Type 0} (opens : C → Place → Result S E → C → Type 0) 
     pub place : Place
     pub can : CanSend (agent_of before) request place
     pub stream : S
-    pub gets : Gets opens place before used stream after
+    pub gets : GetsReady opens looks contents remaining place before used stream after
     pub left : S
     pub fails : Sends writes flushes (Err error) stream left
     pub holds : HoldsAfter place before left false after
@@ -120,8 +141,9 @@ module _ {C S E : Type 0} (opens : C → Place → Result S E → C → Type 0) 
       × (after.idle.kept.items ≡ before.idle.kept.items)
       × CannotSend (agent_of before) fault request
   Calls before request (Err (Http1 (Error.Connect error))) after =
-      (place : Place) × CanSend (agent_of before) request place × FailsToOpen opens place before error after
-      × (after.idle.kept.items ≡ before.idle.kept.items)
+      (place : Place) × CanSend (agent_of before) request place
+      × FailsToOpen opens looks contents remaining place before error after
+      × (after.idle.kept.items ≡ without place before.idle.kept.items)
   -- a connection that was just opened failed, or any one within a reply
   Calls before request (Err (Http1 (Error.Write error))) after =
       FailsToWrite before request error false after

@@ -1,5 +1,5 @@
 -- One exchange over a connection that may be used again (RFC 9112, 9.3).
-use Rattle.std.specs.Prelude.{◌≡◌, ℕ, ◌≤◌, Bool, true, not, ◌&&◌, ⊤, List, length, ◌==◌, Option, Some, IfSome, Result, Ok}
+use Rattle.std.specs.Prelude.{◌≡◌, ℕ, ◌≤◌, Bool, true, false, not, ◌&&◌, ◌⊎◌, ⊤, List, length, ◌==◌, Option, Some, IfSome, Result, Ok}
 use Rattle.std.specs.declared.io.Error.{Error}
 use Rattle.std.specs.Io.KnownBytes.{Appends, prepend_known}
 use Rattle.http.specs.Request.{head_of}
@@ -32,6 +32,20 @@ pub record Leaves (t : Terms) (closes : Bool) (stream : List ℕ) (response : Ht
 abbrev pub request_closes : Option (List ℕ) → Place → HttpRequest → Bool
 request_closes agent place request =
     states_close (kept_fields agent place (head_of request).headers)
+
+module _ {S : Type 0} (looks : S → Bool → S → Type 0) (contents remaining : S → Option (List ℕ)) where
+  -- a look at a connection told whether it is silent, and took and wrote nothing
+  pub record LookedAt (silent : Bool) (before after : S) : Type 0 where
+    pub told : looks before silent after
+    pub remains : remaining after ≡ remaining before
+    pub written : contents after ≡ contents before
+
+  -- a connection before its next request: one that was used before told just then that it is silent,
+  -- so that no byte that waits on it is taken for the reply (RFC 9112, 9.2); a new one is as it was
+  -- opened, or was looked at too
+  abbrev pub IsReady : Bool → S → S → Type 0
+  IsReady true before ready = LookedAt true before ready
+  IsReady false before ready = (ready ≡ before) ⊎ LookedAt true before ready
 
 module _ {S : Type 0} (contents remaining : S → Option (List ℕ)) (reads writes : S → Result ℕ Error → S → Type 0)
     (flushes : S → Result ⊤ Error → S → Type 0) (agent : Option (List ℕ)) (bounds : Bounds) (place : Place) (request : HttpRequest) where

@@ -28,6 +28,7 @@ use Rattle.oauth2_http1.specs.Message.{ReadsOnly, Takes, head_text, kept_fields,
 use Rattle.oauth2_http1.specs.Origin.{Place, host_text, origin_form}
 use Rattle.oauth2_http1_connections.specs.Client.{agent_of, IsSetAs, CannotSend, CanSend, FailsToOpen, Answers, GetsNoReply, FailsToWrite, Calls}
 use Rattle.oauth2_http1_connections.specs.Exchange.{Writes}
+use Rattle.oauth2_http1_connections.specs.Idle.{without}
 use Rattle.oauth2_http1_connections.specs.Law.{HasHistory, EachHasHistory, Follows}
 use Rattle.oauth2_http1_connections.specs.declared.client.KeepAliveClient.{KeepAliveClient}
 use Rattle.oauth2_http1_connections.specs.declared.error.KeepAliveError.{KeepAliveError}
@@ -77,17 +78,18 @@ CannotPost agent Fault.OwnFraming request = ⊥
 CannotPost agent Fault.Connect request = ⊥
 CannotPost agent fault request = CannotSend agent fault request
 
-module _ {C S E : Type 0} (opens : C → Place → Result S E → C → Type 0) (contents remaining : S → Option (List ℕ))
+module _ {C S E : Type 0} (opens : C → Place → Result S E → C → Type 0) (looks : S → Bool → S → Type 0) (contents remaining : S → Option (List ℕ))
     (reads writes : S → Result ℕ Io.Error → S → Type 0) (flushes : S → Result ⊤ Io.Error → S → Type 0)
     (c : Configuration) (text : List ℕ) where
   -- what was written to the connection `stream` is the configured request, as a server reads it; it
-  -- is the next message of the connection, whatever this carried since it was opened
-  pub record IsConfigured (before : KeepAliveClient C S) (request : HttpRequest) (place : Place) (stream sent : S)
+  -- is the next message of the connection, which was `taken` before, whatever it carried since it was
+  -- opened
+  pub record IsConfigured (before : KeepAliveClient C S) (request : HttpRequest) (place : Place) (taken stream sent : S)
       (wrote : Writes contents remaining reads writes flushes (agent_of before) before.bounds place request stream sent) : Type 0 where
     pub is : IsRequestOf c text (view_of request)
     pub read_as : AreReadAs c (agent_of before) place request wrote.bytes
-    pub follows : (history : HasHistory opens contents remaining reads writes flushes place stream)
-        → Follows opens contents remaining reads writes flushes place stream history wrote.bytes
+    pub follows : (history : HasHistory opens looks contents remaining reads writes flushes place taken)
+        → Follows opens looks contents remaining reads writes flushes place taken history wrote.bytes
         sent
 
   -- the request was sent, and `Says` holds of the reply: the one that begins what remained then on
@@ -95,22 +97,22 @@ module _ {C S E : Type 0} (opens : C → Place → Result S E → C → Type 0) 
   pub record Replied (before after : KeepAliveClient C S) (Says : ReplyView → Type 0) : Type 0 where
     pub request : HttpRequest
     pub response : HttpResponse
-    pub answers : Answers opens contents remaining reads writes flushes before request response after
-    pub configured : IsConfigured before request answers.place answers.stream answers.exchange.sent answers.exchange.wrote
+    pub answers : Answers opens looks contents remaining reads writes flushes before request response after
+    pub configured : IsConfigured before request answers.place answers.gets.taken answers.stream answers.exchange.sent answers.exchange.wrote
     pub says : Says (reply_of response)
     pub came : IfSome (remaining answers.exchange.sent) (BeginsWith (reply_terms before.bounds (codes "POST")) (reply_of response))
 
   -- the request was sent, and no reply was read
   pub record Unread (before : KeepAliveClient C S) (fault : ReplyFault) (used came : Bool) (after : KeepAliveClient C S) : Type 0 where
     pub request : HttpRequest
-    pub gets_none : GetsNoReply opens contents remaining reads writes flushes before request fault used came after
-    pub configured : IsConfigured before request gets_none.place gets_none.stream gets_none.sent gets_none.wrote
+    pub gets_none : GetsNoReply opens looks contents remaining reads writes flushes before request fault used came after
+    pub configured : IsConfigured before request gets_none.place gets_none.gets.taken gets_none.stream gets_none.sent gets_none.wrote
 
   -- a write of the request failed
   abbrev pub Unwritten : KeepAliveClient C S → Io.Error → Bool → KeepAliveClient C S → Type 0
   Unwritten before error used after =
       (request : HttpRequest) × IsRequestOf c text (view_of request)
-      × FailsToWrite opens contents remaining reads writes flushes before request error used after
+      × FailsToWrite opens looks contents remaining reads writes flushes before request error used after
 
   -- by the error of the client: nothing was written, a write failed, or no reply was read; a POST
   -- that was not answered may not be sent again (RFC 9110, 9.2.2)
@@ -119,8 +121,9 @@ module _ {C S E : Type 0} (opens : C → Place → Result S E → C → Type 0) 
       (after.connect ≡ before.connect) × (after.idle.kept.items ≡ before.idle.kept.items)
       × (request : HttpRequest) × IsRequestOf c text (view_of request) × CannotPost (agent_of before) fault request
   NotReplied before (Http1 (Error.Connect error)) after =
-      (after.idle.kept.items ≡ before.idle.kept.items) × (request : HttpRequest) × IsRequestOf c text (view_of request)
-      × (place : Place) × CanSend (agent_of before) request place × FailsToOpen opens place before error after
+      (request : HttpRequest) × IsRequestOf c text (view_of request)
+      × (place : Place) × CanSend (agent_of before) request place × FailsToOpen opens looks contents remaining place before error after
+      × (after.idle.kept.items ≡ without place before.idle.kept.items)
   NotReplied before (Http1 (Error.Write error)) after = Unwritten before error false after
   NotReplied before (Http1 (Error.Reply fault)) after =
       (used : Bool) × (came : Bool) × (used ≡ true
@@ -154,11 +157,11 @@ module _ {C S E : Type 0} (opens : C → Place → Result S E → C → Type 0) 
     pub record KeptResult (before : KeepAliveClient C S) (result : Result D (RequestTokenError (KeepAliveError E) T)) (after : KeepAliveClient C S) : Type 0 where
       pub bytes : FromKeptBytes before result after
       pub set : IsSetAs before after
-      pub histories : EachHasHistory opens contents remaining reads writes flushes before
-          → EachHasHistory opens contents remaining reads writes flushes after
+      pub histories : EachHasHistory opens looks contents remaining reads writes flushes before
+          → EachHasHistory opens looks contents remaining reads writes flushes after
 
 -- `KeptResult` holds of the result of each request that meets its contract over this client
-module _ {C S E : Type 0} (opens : C → Place → Result S E → C → Type 0) (contents remaining : S → Option (List ℕ))
+module _ {C S E : Type 0} (opens : C → Place → Result S E → C → Type 0) (looks : S → Bool → S → Type 0) (contents remaining : S → Option (List ℕ))
     (reads writes : S → Result ℕ Io.Error → S → Type 0) (flushes : S → Result ⊤ Io.Error → S → Type 0)
     {D A T X : Type 0} (meaning : D → A) (error_meaning : T → X) where
   abbrev pub EachIsFromKeptBytes : Type 0
@@ -167,7 +170,7 @@ module _ {C S E : Type 0} (opens : C → Place → Result S E → C → Type 0) 
       → Answer A X) (before after : KeepAliveClient C S)
       (result : Result D (RequestTokenError (KeepAliveError E) T))
       → AsksOnce meaning error_meaning
-      (λ before request answer after. IsSetAs before after × Calls opens contents remaining reads writes flushes before request answer after)
+      (λ before request answer after. IsSetAs before after × Calls opens looks contents remaining reads writes flushes before request answer after)
       says (IsRequestOf c) text before result after
-      → KeptResult opens contents remaining reads writes flushes c text meaning error_meaning says
+      → KeptResult opens looks contents remaining reads writes flushes c text meaning error_meaning says
       before result after

@@ -1,5 +1,5 @@
 -- What went over one connection that carried several exchanges.
-use Rattle.std.specs.Prelude.{◌≡◌, ℕ, ⊤, true, List, [], ◌∷◌, ◌++◌, Option, Some, IfSome, IsSome, Result, Ok}
+use Rattle.std.specs.Prelude.{◌≡◌, ℕ, ⊤, Bool, true, false, List, [], ◌∷◌, ◌++◌, Option, Some, IfSome, IsSome, Result, Ok}
 use Rattle.std.specs.declared.io.Error.{Error}
 use Rattle.std.specs.Io.KnownBytes.{Appends, Keeps}
 use Rattle.std.specs.List.{AllByRecursion}
@@ -15,7 +15,7 @@ use Rattle.oauth2_http1.specs.Message.{Takes, ReadsOnly, head_text, kept_fields,
 use Rattle.oauth2_http1.specs.Origin.{Place, origin_form}
 use Rattle.oauth2_http1.specs.Reply.{ReadsReply, IsResponseOf}
 use Rattle.oauth2_http1_connections.specs.Client.{agent_of}
-use Rattle.oauth2_http1_connections.specs.Exchange.{Exchange}
+use Rattle.oauth2_http1_connections.specs.Exchange.{IsReady, Exchange}
 use Rattle.oauth2_http1_connections.specs.Idle.{text_of, find}
 use Rattle.oauth2_http1_connections.specs.declared.client.KeepAliveClient.{KeepAliveClient}
 use Rattle.oauth2_http1_connections.specs.declared.error.KeepAliveError.{KeepAliveError}
@@ -43,34 +43,39 @@ abbrev pub IsDelimited : (List ℕ → List ℕ → Type 0) → List ℕ → Lis
 IsDelimited P stream rest =
     (used : List ℕ) × (stream ≡ used ++ rest) × ((more : List ℕ) → P (used ++ more) more)
 
-module _ {S : Type 0} (contents remaining : S → Option (List ℕ)) (reads writes : S → Result ℕ Error → S → Type 0)
+module _ {S : Type 0} (looks : S → Bool → S → Type 0) (contents remaining : S → Option (List ℕ)) (reads writes : S → Result ℕ Error → S → Type 0)
     (flushes : S → Result ⊤ Error → S → Type 0) (place : Place) where
-  -- the connection carried these exchanges one after the other, and was kept after each
-  abbrev pub Carries : List Asked → S → S → Type 0
-  Carries [] before after = after ≡ before
-  Carries (asked ∷ later) before after =
-      (mid : S)
+  -- the connection carried these exchanges one after the other, and was kept after each; before each
+  -- but the first, and before that one too if the connection was used before, it told that it is
+  -- silent
+  abbrev pub Carries : Bool → List Asked → S → S → Type 0
+  Carries used [] before after = after ≡ before
+  Carries used (asked ∷ later) before after =
+      (ready : S) × IsReady looks contents remaining used before ready × (mid : S)
       × Exchange contents remaining reads writes flushes asked.agent asked.bounds place
-      asked.request before asked.response true mid
-      × Carries later mid after
+      asked.request ready asked.response true mid
+      × Carries true later mid after
 
   -- the bytes that were written, in the order of the exchanges
-  abbrev pub sent_bytes : (all : List Asked) (before after : S) → Carries all before after → List ℕ
-  sent_bytes [] before after carried = []
-  sent_bytes (asked ∷ later) before after (mid, exchange, carried) =
-      exchange.wrote.bytes ++ sent_bytes later mid after carried
+  abbrev pub sent_bytes : (used : Bool) (all : List Asked) (before after : S)
+      → Carries used all before after → List ℕ
+  sent_bytes used [] before after carried = []
+  sent_bytes used (asked ∷ later) before after (ready, silent, mid, exchange, carried) =
+      exchange.wrote.bytes ++ sent_bytes true later mid after carried
 
   -- the bytes that were read, in the order of the exchanges
-  abbrev pub read_bytes : (all : List Asked) (before after : S) → Carries all before after → List ℕ
-  read_bytes [] before after carried = []
-  read_bytes (asked ∷ later) before after (mid, exchange, carried) =
-      exchange.within.0.bytes ++ read_bytes later mid after carried
+  abbrev pub read_bytes : (used : Bool) (all : List Asked) (before after : S)
+      → Carries used all before after → List ℕ
+  read_bytes used [] before after carried = []
+  read_bytes used (asked ∷ later) before after (ready, silent, mid, exchange, carried) =
+      exchange.within.0.bytes ++ read_bytes true later mid after carried
 
   -- at each exchange it is known which bytes the connection gives
-  abbrev pub AreKnown : (all : List Asked) (before after : S) → Carries all before after → Type 0
-  AreKnown [] before after carried = ⊤
-  AreKnown (asked ∷ later) before after (mid, exchange, carried) =
-      IsSome (remaining exchange.sent) × AreKnown later mid after carried
+  abbrev pub AreKnown : (used : Bool) (all : List Asked) (before after : S)
+      → Carries used all before after → Type 0
+  AreKnown used [] before after carried = ⊤
+  AreKnown used (asked ∷ later) before after (ready, silent, mid, exchange, carried) =
+      IsSome (remaining exchange.sent) × AreKnown true later mid after carried
 
   -- a read leaves what was written
   abbrev pub ReadsLeave : Type 0
@@ -105,7 +110,7 @@ BeginsWithRequests limits place [] stream rest = stream ≡ rest
 BeginsWithRequests limits place (asked ∷ later) stream rest =
     (after : List ℕ) × ReadsOnly limits stream (seen_of place asked) after × BeginsWithRequests limits place later after rest
 
-module _ {C S E : Type 0} (opens : C → Place → Result S E → C → Type 0) (contents remaining : S → Option (List ℕ))
+module _ {C S E : Type 0} (opens : C → Place → Result S E → C → Type 0) (looks : S → Bool → S → Type 0) (contents remaining : S → Option (List ℕ))
     (reads writes : S → Result ℕ Error → S → Type 0) (flushes : S → Result ⊤ Error → S → Type 0) where
   -- the connector opened the connection to the place, and since then it carried these exchanges
   pub record HasHistory (place : Place) (now : S) : Type 0 where
@@ -114,7 +119,7 @@ module _ {C S E : Type 0} (opens : C → Place → Result S E → C → Type 0) 
     pub opened : S
     pub opens_it : opens before place (Ok opened) after
     pub exchanges : List Asked
-    pub carried : Carries contents remaining reads writes flushes place exchanges opened now
+    pub carried : Carries looks contents remaining reads writes flushes place false exchanges opened now
 
   -- each idle connection was opened by the connector to its place, and only exchanges of the client
   -- were carried on it
@@ -132,25 +137,25 @@ module _ {C S E : Type 0} (opens : C → Place → Result S E → C → Type 0) 
   -- the bytes that were written to the connection since it was opened
   abbrev pub written_since : (place : Place) (now : S) → HasHistory place now → List ℕ
   written_since place now history =
-      sent_bytes contents remaining reads writes flushes place history.exchanges history.opened now
+      sent_bytes looks contents remaining reads writes flushes place false history.exchanges history.opened now
       history.carried
 
   -- the bytes that were read from the connection since it was opened
   abbrev pub read_since : (place : Place) (now : S) → HasHistory place now → List ℕ
   read_since place now history =
-      read_bytes contents remaining reads writes flushes place history.exchanges history.opened now
+      read_bytes looks contents remaining reads writes flushes place false history.exchanges history.opened now
       history.carried
 
   -- at each exchange since then it is known which bytes the connection gives
   abbrev pub IsKnownSince : (place : Place) (now : S) → HasHistory place now → Type 0
   IsKnownSince place now history =
-      AreKnown contents remaining reads writes flushes place history.exchanges history.opened now
+      AreKnown looks contents remaining reads writes flushes place false history.exchanges history.opened now
       history.carried
 
   -- behind what was written to the connection since it was opened come these bytes, the next
   -- request; and behind the replies to the earlier requests comes what remains at `sent`
   pub record Follows (place : Place) (now : S) (history : HasHistory place now) (bytes : List ℕ) (sent : S) : Type 0 where
-    pub written : ReadsLeave contents remaining reads writes flushes place
+    pub written : ReadsLeave looks contents remaining reads writes flushes place
         → Appends (contents history.opened) (contents sent)
         (written_since place now history ++ bytes)
     pub requests : (limits : Limits) (more : List ℕ) → TakesAll limits place history.exchanges

@@ -1,7 +1,7 @@
 //! The HTTP/1.1 client that uses connections again.
 
-ghost use Rattle.std.specs.Prelude.{◌≡◌, ◌<◌, not, ◌&&◌, [], take, Some, None};
-ghost use Rattle.std.specs.Prelude.{OnOk, OnErr, IfOk, IfErr};
+ghost use Rattle.std.specs.Prelude.{◌≡◌, ◌<◌, not, ◌&&◌, [], take, Some, None, true};
+ghost use Rattle.std.specs.Prelude.{OnOk, IfOk, IfErr, IfSome};
 ghost use Rattle.std.specs.Prelude.{vec_len, vec_capacity};
 ghost use Rattle.http.specs.Request.{head_of};
 ghost use Rattle.http1.specs.Framing.{method_kind};
@@ -10,17 +10,19 @@ ghost use Rattle.oauth2_http1.specs.Kept.{keeps_connection};
 ghost use Rattle.oauth2_http1.specs.Message.{IsKeptWire, Awaits};
 ghost use Rattle.oauth2_http1.specs.Origin.{place_of};
 ghost use Rattle.oauth2_http1.specs.Unsent.{UnsentKept};
-ghost use Rattle.oauth2_http1_connections.specs.Client.{agent_of, IsSetAs, Gets, FailsToOpen};
+ghost use Rattle.oauth2_http1_connections.specs.Client.{agent_of, IsSetAs};
+ghost use Rattle.oauth2_http1_connections.specs.Client.{GetsReady, FailsToOpen, IsSilent, HasNoSilent};
 ghost use Rattle.oauth2_http1_connections.specs.Exchange.{request_closes};
 ghost use Rattle.oauth2_http1_connections.specs.Idle.{text_of, without};
 ghost use Rattle.oauth2_http1_connections.specs.Method.{is_idempotent};
 ghost use Rattle.oauth2_http1_connections.specs.private.Told.{told_as};
 
+use crate::connect::KeepAliveConnect;
 use crate::error::KeepAliveError;
 use crate::idle::{IdleConnections, OwnPlace};
 use http_header::HeaderValue;
 use oauth2_http1::{
-    Bounds, Connect, Http1Error, KeptRequest, MessageFault, Origin, ReplyRead, kept_request_bytes,
+    Bounds, Http1Error, KeptRequest, MessageFault, Origin, ReplyRead, kept_request_bytes,
     origin_of, send, take_reply,
 };
 use oauth2_wire::{AlwaysReady, HttpRequest, HttpResponse, SyncHttpClient};
@@ -77,7 +79,7 @@ fn failed<E>(error: Http1Error<E>, unanswered: bool, may_be_sent_again: bool) ->
     KeepAliveError::Http1(error)
 }
 
-impl<C: Connect> KeepAliveClient<C, C::Stream> {
+impl<C: KeepAliveConnect> KeepAliveClient<C, C::Stream> {
     /// A client with the default bounds, without a `User-Agent`, that holds at most one idle
     /// connection.
     pub fn new(alloc: Global, connect: C) -> KeepAliveClient<C, C::Stream>
@@ -164,36 +166,55 @@ impl<C: Connect> KeepAliveClient<C, C::Stream> {
         Ok((made, place))
     }
 
+    // The idle connection to a place, if there is one and it is silent. It is idle no more.
+    fn silent_connection(&mut self, to: &Origin<'_>) -> Option<C::Stream>
+        ensures found { IfSome result (λ stream. IsSilent C.looks C.Stream.contents
+            C.Stream.remaining (place_of to.now) self.old stream) }
+        ensures none { result ≡ None → HasNoSilent C.looks C.Stream.contents
+            C.Stream.remaining (place_of to.now) self.old }
+        ensures others { self.new.idle.kept.items
+            ≡ without (place_of to.now) self.old.idle.kept.items }
+        ensures connect { self.new.connect ≡ self.old.connect }
+        ensures settings { IsSetAs self.old self.new }
+        ensures room { vec_len self.old.idle.kept < vec_capacity self.old.idle.kept
+            → vec_len self.new.idle.kept < vec_capacity self.new.idle.kept }
+    {
+        let mut stream = self.idle.take(to)?;
+        if C::is_silent(&mut stream) {
+            return Some(stream);
+        }
+        None
+    }
+
     // The connection for a place, and whether it was used before.
     fn connection(&mut self, to: &Origin<'_>) -> Result<(C::Stream, bool), C::Error>
         requires { vec_len self.old.idle.kept < vec_capacity self.old.idle.kept }
-        ensures gets { IfOk result (λ got.
-            Gets C.opens (place_of to.now) self.old got.1 got.0 self.new) }
-        ensures fails { IfErr result (λ e.
-            FailsToOpen C.opens (place_of to.now) self.old e self.new) }
-        ensures idle { OnErr result (self.new.idle.kept.items ≡ self.old.idle.kept.items) }
+        ensures gets { IfOk result (λ got. GetsReady C.opens C.looks C.Stream.contents
+            C.Stream.remaining (place_of to.now) self.old got.1 got.0 self.new) }
+        ensures fails { IfErr result (λ e. FailsToOpen C.opens C.looks C.Stream.contents
+            C.Stream.remaining (place_of to.now) self.old e self.new) }
         ensures others { self.new.idle.kept.items
             ≡ without (place_of to.now) self.old.idle.kept.items }
         ensures settings { IsSetAs self.old self.new }
         ensures room { vec_len self.new.idle.kept < vec_capacity self.new.idle.kept }
     {
-        match self.idle.take(to) {
-            Some(stream) => Ok((stream, true)),
-            None => match self.connect.connect(to) {
-                Ok(stream) => Ok((stream, false)),
-                Err(e) => Err(e),
-            },
+        if let Some(stream) = self.silent_connection(to) {
+            return Ok((stream, true));
+        }
+        match self.connect.connect(to) {
+            Ok(stream) => Ok((stream, false)),
+            Err(e) => Err(e),
         }
     }
 }
 
-impl<C: Connect> SyncHttpClient for KeepAliveClient<C, C::Stream> {
+impl<C: KeepAliveConnect> SyncHttpClient for KeepAliveClient<C, C::Stream> {
     ghost use Rattle.oauth2_http1_connections.specs.Client.{IsSetAs, Calls};
 
     type Error = KeepAliveError<C::Error>;
 
     ghost step = { λ before request answer after. IsSetAs before after
-        × Calls C.opens C.Stream.contents C.Stream.remaining
+        × Calls C.opens C.looks C.Stream.contents C.Stream.remaining
         C.Stream.reads C.Stream.writes C.Stream.flushes before request answer after };
 
     fn call(&mut self, request: HttpRequest) -> Result<HttpResponse, KeepAliveError<C::Error>> {
@@ -227,6 +248,6 @@ impl<C: Connect> SyncHttpClient for KeepAliveClient<C, C::Stream> {
     }
 }
 
-impl<C: Connect> AlwaysReady for KeepAliveClient<C, C::Stream> {
+impl<C: KeepAliveConnect> AlwaysReady for KeepAliveClient<C, C::Stream> {
     ghost always_ready = { λ _. tt };
 }

@@ -4,11 +4,13 @@
 #![tactic(auto)]
 
 mod client;
+mod connect;
 mod error;
 mod idle;
 mod law;
 
 pub use client::{KeepAliveClient, is_idempotent};
+pub use connect::KeepAliveConnect;
 pub use error::KeepAliveError;
 pub use law::{
     each_idle_connection_has_a_history, each_reply_is_the_next_message,

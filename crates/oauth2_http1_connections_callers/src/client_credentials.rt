@@ -6,8 +6,7 @@ ghost use Rattle.oauth2_requests.specs.ClientCredentials.{client_credentials_con
 ghost use Rattle.oauth2_http1_connections.specs.KeptFromBytes.{KeptResult};
 
 use oauth2_codes::ErrorResponse;
-use oauth2_http1::Connect;
-use oauth2_http1_connections::{KeepAliveClient, KeepAliveError};
+use oauth2_http1_connections::{KeepAliveClient, KeepAliveConnect, KeepAliveError};
 use oauth2_replies::TokenResponse;
 use oauth2_requests::ClientCredentialsTokenRequest;
 use oauth2_wire::RequestTokenError;
@@ -15,12 +14,12 @@ use std::alloc::Global;
 
 /// Requests a token with the client's own credentials (RFC 6749, section 4.4.2).
 #[tactic(auto, using(oauth2_http1_connections::proofs::KeptFromBytes::from_kept_bytes))]
-pub fn token_for_credentials<C: Connect, TE: ErrorResponse, TR: TokenResponse>(
+pub fn token_for_credentials<C: KeepAliveConnect, TE: ErrorResponse, TR: TokenResponse>(
     alloc: Global,
     request: ClientCredentialsTokenRequest<'_, TE, TR>,
     http_client: &mut KeepAliveClient<C, C::Stream>,
 ) -> Result<TR, RequestTokenError<KeepAliveError<C::Error>, TE>>
-    ensures { KeptResult C.opens C.Stream.contents C.Stream.remaining
+    ensures { KeptResult C.opens C.looks C.Stream.contents C.Stream.remaining
         C.Stream.reads C.Stream.writes C.Stream.flushes
         (client_credentials_configuration request.entry)
         (serialize request.entry.token_url.url)

@@ -7,8 +7,7 @@ ghost use Rattle.oauth2_requests.specs.DeviceAuthorization.{device_authorization
 ghost use Rattle.oauth2_http1_connections.specs.KeptFromBytes.{KeptResult};
 
 use oauth2_codes::ErrorResponse;
-use oauth2_http1::Connect;
-use oauth2_http1_connections::{KeepAliveClient, KeepAliveError};
+use oauth2_http1_connections::{KeepAliveClient, KeepAliveConnect, KeepAliveError};
 use oauth2_replies::{DeviceAuthorizationResponse, ExtraDeviceAuthorizationFields};
 use oauth2_requests::DeviceAuthorizationRequest;
 use oauth2_wire::RequestTokenError;
@@ -16,12 +15,16 @@ use std::alloc::Global;
 
 /// Requests the codes for a device and its user (RFC 8628, section 3.1).
 #[tactic(auto, using(oauth2_http1_connections::proofs::KeptFromBytes::from_kept_bytes))]
-pub fn device_codes<C: Connect, TE: ErrorResponse, EF: ExtraDeviceAuthorizationFields + Drop>(
+pub fn device_codes<
+    C: KeepAliveConnect,
+    TE: ErrorResponse,
+    EF: ExtraDeviceAuthorizationFields + Drop,
+>(
     alloc: Global,
     request: DeviceAuthorizationRequest<'_, TE>,
     http_client: &mut KeepAliveClient<C, C::Stream>,
 ) -> Result<DeviceAuthorizationResponse<EF>, RequestTokenError<KeepAliveError<C::Error>, TE>>
-    ensures { KeptResult C.opens C.Stream.contents C.Stream.remaining
+    ensures { KeptResult C.opens C.looks C.Stream.contents C.Stream.remaining
         C.Stream.reads C.Stream.writes C.Stream.flushes
         (device_authorization_configuration request.entry)
         (serialize request.entry.device_authorization_url.url)

@@ -6,8 +6,7 @@ ghost use Rattle.oauth2_requests.specs.TokenRevocation.{revocation_configuration
 ghost use Rattle.oauth2_http1_connections.specs.KeptFromBytes.{KeptResult};
 
 use oauth2_codes::ErrorResponse;
-use oauth2_http1::Connect;
-use oauth2_http1_connections::{KeepAliveClient, KeepAliveError};
+use oauth2_http1_connections::{KeepAliveClient, KeepAliveConnect, KeepAliveError};
 use oauth2_replies::RevocableToken;
 use oauth2_requests::RevocationRequest;
 use oauth2_wire::RequestTokenError;
@@ -15,12 +14,12 @@ use std::alloc::Global;
 
 /// Revokes a token. Success means only that the reply's status is 200 (RFC 7009, section 2.2).
 #[tactic(auto, using(oauth2_http1_connections::proofs::KeptFromBytes::from_kept_bytes))]
-pub fn revoke<C: Connect, RT: RevocableToken + Drop, TE: ErrorResponse>(
+pub fn revoke<C: KeepAliveConnect, RT: RevocableToken + Drop, TE: ErrorResponse>(
     alloc: Global,
     request: RevocationRequest<'_, RT, TE>,
     http_client: &mut KeepAliveClient<C, C::Stream>,
 ) -> Result<(), RequestTokenError<KeepAliveError<C::Error>, TE>>
-    ensures { KeptResult C.opens C.Stream.contents C.Stream.remaining
+    ensures { KeptResult C.opens C.looks C.Stream.contents C.Stream.remaining
         C.Stream.reads C.Stream.writes C.Stream.flushes
         (revocation_configuration request.entry)
         (serialize request.entry.revocation_url.url)

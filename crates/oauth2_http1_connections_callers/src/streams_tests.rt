@@ -5,8 +5,8 @@
 use crate::code::token_for_code;
 use crate::refresh::refreshed_token;
 use oauth2_codes::BasicErrorResponse;
-use oauth2_http1::{Duplex, Over};
-use oauth2_http1_connections::KeepAliveClient;
+use oauth2_http1::{Connect, Duplex, NoConnection, Origin, Over, Receive, Transmit};
+use oauth2_http1_connections::{KeepAliveClient, KeepAliveConnect};
 use oauth2_replies::{BasicTokenResponse, TokenResponse};
 use oauth2_requests::{BaseRequest, CodeTokenRequest, RefreshTokenRequest};
 use oauth2_types::{AuthorizationCode, ClientId, ClientSecret, RefreshToken};
@@ -56,6 +56,26 @@ const REQUESTS: &str = "POST /token HTTP/1.1\r\n\
     \r\n\
     grant_type=refresh_token&refresh_token=tGzv3JOkF0XG5Qx2TlKWIA";
 
+// Hands out one connection, whose peer sends no byte before it is asked.
+#[derive(Drop)]
+struct Answering<S>(Over<S>);
+
+impl<S: Receive + Transmit + Drop> Connect for Answering<S> {
+    type Stream = S;
+
+    type Error = NoConnection;
+
+    fn connect(&mut self, to: &Origin<'_>) -> Result<S, NoConnection> {
+        self.0.connect(to)
+    }
+}
+
+impl<S: Receive + Transmit + Drop> KeepAliveConnect for Answering<S> {
+    fn is_silent(_stream: &mut S) -> bool {
+        true
+    }
+}
+
 fn text(rt: &(impl Abort + AllocGlobal), text: &str) -> String {
     String::from_str(rt.alloc(), text).expect(rt, "a text")
 }
@@ -82,7 +102,7 @@ fn two_requests_go_over_one_connection(rt: HostRuntime) -> Result<(), Fail> {
         reader: FIRST_REPLY.as_bytes().chain(SECOND_REPLY.as_bytes()),
         writer: Vec::new(alloc),
     };
-    let mut http_client = KeepAliveClient::new(alloc, Over::new(&mut streams));
+    let mut http_client = KeepAliveClient::new(alloc, Answering(Over::new(&mut streams)));
     let token = token_for_code(alloc, request, &mut http_client)?;
     assert_eq!(rt;
         token.access_token().secret().as_str(),

@@ -15,6 +15,7 @@
 //! | `open SCHEME HOST PORT` | a number for the connection, or anything else if there is none |
 //! | `write NUMBER BYTES` | how many of the bytes were written, or anything else if it failed |
 //! | `read NUMBER MOST` | the next bytes, at most so many, `-` at their end, or anything else |
+//! | `look NUMBER` | `silent` if it is open and no byte waits on it, or anything else |
 //!
 //! `close NUMBER` needs no answer: the connection was dropped. The last line of a call is `= ` and
 //! what it returned: `= reply STATUS BODY [CONTENT_TYPE]`, in bytes, `= failed ERROR`, or

@@ -4,6 +4,7 @@ ghost use Rattle.std.specs.Prelude.{◌≤◌, length, IfSome};
 
 use crate::request::{bytes_of, word_of};
 use oauth2_http1::{Connect, Origin, Receive, Transmit};
+use oauth2_http1_connections::KeepAliveConnect;
 use std::cell::RefCell;
 use std::io::{self, BufRead, BufReader, ErrorKind, Stdin};
 
@@ -75,6 +76,12 @@ impl<'r> Connect for PipeConnector<'r> {
     }
 }
 
+impl<'r> KeepAliveConnect for PipeConnector<'r> {
+    fn is_silent(stream: &mut PipeStream<'r>) -> bool {
+        stream.looks_silent().unwrap_or(false)
+    }
+}
+
 /// A connection of the other side, by its number there.
 pub struct PipeStream<'r> {
     pipe: &'r Pipe<'r>,
@@ -100,6 +107,14 @@ impl<'r> PipeStream<'r> {
         let len = bytes.len().min(chunk.len());
         chunk[..len].copy_from_slice(&bytes.as_slice()[..len]);
         Some(len)
+    }
+
+    // Asks whether no byte waits.
+    fn looks_silent(&self) -> Option<bool> {
+        let alloc = self.pipe.rt.alloc();
+        let request = format!(in alloc; "look {}", self.number).ok()?;
+        let answer = self.pipe.ask(request.as_str())?;
+        Some(answer.as_str().trim() == "silent")
     }
 
     // Hands the bytes over, and returns how many were written.

@@ -1,7 +1,7 @@
 //! Calls of one client, one after the other.
 
 use crate::peer::{Peer, Peers};
-use crate::rows::{Call, DROPPED, FAILED, KEPT, PARTED, PLACES, Row, parted};
+use crate::rows::{Call, DROPPED, FAILED, KEPT, PARTED, PLACES, Row, UNASKED, parted};
 use http::request::Parts;
 use http::{Method, Request, Version};
 use http_header::{HeaderMap, HeaderName, HeaderValue};
@@ -85,6 +85,13 @@ fn connections_that_are_dropped(rt: HostRuntime) {
         assert_row(&rt, &parted(peers));
     }
     for row in DROPPED {
+        assert_row(&rt, row);
+    }
+}
+
+#[test]
+fn bytes_that_wait_before_a_call(rt: HostRuntime) {
+    for row in UNASKED {
         assert_row(&rt, row);
     }
 }

@@ -3,10 +3,11 @@
 ghost use Rattle.std.specs.Prelude.{◌≤◌, length};
 
 use oauth2_http1::{Connect, Origin, Receive, Transmit};
+use oauth2_http1_connections::KeepAliveConnect;
 use std::io::{self, ErrorKind};
 
 /// The other end of one connection. It takes these requests, each in one write, and gives these
-/// pieces, one at each read.
+/// pieces, one at each read. An empty piece says that the next one waits before a request is written.
 #[derive(Clone, Copy)]
 pub struct Peer {
     pub takes: &'static [&'static str],
@@ -14,10 +15,23 @@ pub struct Peer {
 }
 
 impl Peer {
+    // Whether the next piece is empty. It is passed then.
+    fn passes_mark(&mut self) -> bool {
+        let [piece, left @ ..] = self.gives else {
+            return false;
+        };
+        if !piece.is_empty() {
+            return false;
+        }
+        self.gives = left;
+        true
+    }
+
     // Copies the next piece into `chunk`, and returns its length; 0 after the last one.
     fn give(&mut self, chunk: &mut [u8]) -> usize
         ensures { result ≤ length chunk.new }
     {
+        let _ = self.passes_mark();
         let [piece, left @ ..] = self.gives else {
             return 0;
         };
@@ -69,5 +83,11 @@ impl Connect for Peers {
         };
         self.left = left;
         Ok(*peer)
+    }
+}
+
+impl KeepAliveConnect for Peers {
+    fn is_silent(peer: &mut Peer) -> bool {
+        !peer.passes_mark()
     }
 }

@@ -172,6 +172,73 @@ pub fn parted(peers: &'static [Peer]) -> Row {
     }
 }
 
+const THREE: &str = "HTTP/1.1 200 OK\r\ncontent-length: 1\r\n\r\n3";
+
+/// Connections that are kept, and on which bytes wait before the next call.
+pub const UNASKED: &[Row] = &[
+    // a whole reply: it is not the reply to the second call
+    Row {
+        most_idle: 1,
+        peers: &[
+            Peer {
+                takes: &[A_BYTES, B_BYTES],
+                gives: &[ONE, "", THREE],
+            },
+            SECOND,
+        ],
+        calls: BOTH,
+        wanted: OK,
+        unopened: 0,
+    },
+    // one byte, behind two calls on the connection
+    Row {
+        most_idle: 1,
+        peers: &[
+            Peer {
+                takes: &[A_BYTES, A_BYTES, B_BYTES],
+                gives: &[ONE, ONE, "", "\n", THREE],
+            },
+            SECOND,
+        ],
+        calls: &[A, A, B],
+        wanted: &["200 1", "200 1", "200 2"],
+        unopened: 0,
+    },
+    // no other connection can be opened, and the first one is not taken up again
+    Row {
+        most_idle: 1,
+        peers: &[Peer {
+            takes: &[A_BYTES, B_BYTES],
+            gives: &[ONE, "", THREE],
+        }],
+        calls: &[A, B, B],
+        wanted: &[
+            "200 1",
+            "Http1(Connect(Kind(ConnectionRefused)))",
+            "Http1(Connect(Kind(ConnectionRefused)))",
+        ],
+        unopened: 0,
+    },
+    // the connection to another place stays
+    Row {
+        most_idle: 2,
+        peers: &[
+            Peer {
+                takes: &[A_BYTES],
+                gives: &[ONE, "", THREE],
+            },
+            Peer {
+                takes: &[OTHER_BYTES, OTHER_BYTES],
+                gives: &[TWO, TWO],
+            },
+            SECOND,
+        ],
+        calls: &[A, OTHER, B, OTHER],
+        wanted: &["200 1", "200 2", "200 2", "200 2"],
+        unopened: 0,
+    },
+];
+
 /// Calls after which the connection is not used again either.
 pub const DROPPED: &[Row] = &[
     // the request says `close`

@@ -6,7 +6,7 @@ use Rattle.oauth2_http1_connections_callers.proofs.refresh.refreshed_token.Goals
 
 pub returns : goal.returns
 returns g c =
-    from_kept_bytes g.C.Connect.opens g.C.Stream.Transmit.contents g.C.Stream.Receive.remaining g.C.Stream.Receive.reads
+    from_kept_bytes g.C.Connect.opens g.C.KeepAliveConnect.looks g.C.Stream.Transmit.contents g.C.Stream.Receive.remaining g.C.Stream.Receive.reads
     g.C.Stream.Transmit.writes g.C.Stream.Transmit.flushes (refresh_configuration c.args.request) (serialize c.args.request.token_url.url)
     g.TR.FromJson.meaning g.TE.FromJson.meaning (answer_of c.args.request.base.reply_rule g.TR.FromJson.reading g.TE.FromJson.reading)
     c.args.http_client.now c.request.new.http_client c.request.result c.request.ensures.once

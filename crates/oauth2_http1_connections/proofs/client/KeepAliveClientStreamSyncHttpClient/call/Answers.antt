@@ -31,9 +31,9 @@ returns-in-Err-send-clause-step g c =
     let place = place_of c.in-Ok.origin in
     let again = c.is_idempotent-again.ensures ∙ ap is_idempotent (c.as_bytes.ensures.value ∙ c.as_str.ensures.value ∙ c.method.ensures) in (
       set_trans before c.prepare.new.self next c.prepare.ensures.settings c.connection.ensures.settings,
-      subst (λ e. Calls g.C.Connect.opens g.C.Stream.Transmit.contents g.C.Stream.Receive.remaining g.C.Stream.Receive.reads g.C.Stream.Transmit.writes g.C.Stream.Transmit.flushes before c.args.request (Err e) next)
+      subst (λ e. Calls g.C.Connect.opens g.C.KeepAliveConnect.looks g.C.Stream.Transmit.contents g.C.Stream.Receive.remaining g.C.Stream.Receive.reads g.C.Stream.Transmit.writes g.C.Stream.Transmit.flushes before c.args.request (Err e) next)
           (sym c.failed.ensures)
-          (write_told g.C.Connect.opens g.C.Stream.Transmit.contents g.C.Stream.Receive.remaining g.C.Stream.Receive.reads g.C.Stream.Transmit.writes g.C.Stream.Transmit.flushes before next c.args.request
+          (write_told g.C.Connect.opens g.C.KeepAliveConnect.looks g.C.Stream.Transmit.contents g.C.Stream.Receive.remaining g.C.Stream.Receive.reads g.C.Stream.Transmit.writes g.C.Stream.Transmit.flushes before next c.args.request
           c.is_idempotent-again.result again c.in-Err-send.e c.in-Ok-connection.got.1 (record {
             place = place;
             can = record {
@@ -42,7 +42,7 @@ returns-in-Err-send-clause-step g c =
               wire = c.in-Ok-prepare.ensures.wire;
             };
             stream = c.in-Ok-connection.got.0;
-            gets = gets_from g.C.Connect.opens place before c.prepare.new.self next next c.in-Ok-connection.got.1 c.in-Ok-connection.got.0 c.prepare.ensures.idle c.prepare.ensures.connect refl c.in-Ok-connection.ensures.gets;
+            gets = gets_from g.C.Connect.opens g.C.KeepAliveConnect.looks g.C.Stream.Transmit.contents g.C.Stream.Receive.remaining place before c.prepare.new.self next next c.in-Ok-connection.got.1 c.in-Ok-connection.got.0 c.prepare.ensures.idle c.prepare.ensures.connect refl c.in-Ok-connection.ensures.gets;
             left = c.send.new.writer;
             fails = c.in-Err-send.ensures.calls;
             holds = c.connection.ensures.others ∙ ap (without place) c.prepare.ensures.idle;
@@ -69,7 +69,7 @@ returns-in-Ok-take_reply-clause-step g c =
         place = place;
         used = c.in-Ok-connection.got.1;
         stream = c.in-Ok-connection.got.0;
-        gets = gets_from g.C.Connect.opens place before c.prepare.new.self next after c.in-Ok-connection.got.1 c.in-Ok-connection.got.0 c.prepare.ensures.idle c.prepare.ensures.connect refl c.in-Ok-connection.ensures.gets;
+        gets = gets_from g.C.Connect.opens g.C.KeepAliveConnect.looks g.C.Stream.Transmit.contents g.C.Stream.Receive.remaining place before c.prepare.new.self next after c.in-Ok-connection.got.1 c.in-Ok-connection.got.0 c.prepare.ensures.idle c.prepare.ensures.connect refl c.in-Ok-connection.ensures.gets;
         kept = c.may_be_used_again-keeps.result;
         left = stream;
         exchange = record {
@@ -105,13 +105,13 @@ returns-clause-step g c =
     let again = c.is_idempotent-again.ensures ∙ ap is_idempotent (c.as_bytes.ensures.value ∙ c.as_str.ensures.value ∙ c.method.ensures) in
     let unread = c.in-Err-take_reply.unread in (
       set,
-      subst (λ e. Calls g.C.Connect.opens g.C.Stream.Transmit.contents g.C.Stream.Receive.remaining g.C.Stream.Receive.reads g.C.Stream.Transmit.writes g.C.Stream.Transmit.flushes before c.args.request (Err e) next)
+      subst (λ e. Calls g.C.Connect.opens g.C.KeepAliveConnect.looks g.C.Stream.Transmit.contents g.C.Stream.Receive.remaining g.C.Stream.Receive.reads g.C.Stream.Transmit.writes g.C.Stream.Transmit.flushes before c.args.request (Err e) next)
           (ap (λ b. told_as b c.is_idempotent-again.result (Error.Reply unread.fault)) (sym c.is_unanswered-unanswered.ensures) ∙ sym c.failed-in-Err-take_reply.ensures)
-          (fault_told g.C.Connect.opens g.C.Stream.Transmit.contents g.C.Stream.Receive.remaining g.C.Stream.Receive.reads g.C.Stream.Transmit.writes g.C.Stream.Transmit.flushes before next c.args.request
+          (fault_told g.C.Connect.opens g.C.KeepAliveConnect.looks g.C.Stream.Transmit.contents g.C.Stream.Receive.remaining g.C.Stream.Receive.reads g.C.Stream.Transmit.writes g.C.Stream.Transmit.flushes before next c.args.request
           c.is_idempotent-again.result again unread.fault c.in-Ok-connection.got.1 unread.came (record {
             place = place;
             stream = c.in-Ok-connection.got.0;
-            gets = gets_from g.C.Connect.opens place before c.prepare.new.self next next c.in-Ok-connection.got.1 c.in-Ok-connection.got.0 c.prepare.ensures.idle c.prepare.ensures.connect refl c.in-Ok-connection.ensures.gets;
+            gets = gets_from g.C.Connect.opens g.C.KeepAliveConnect.looks g.C.Stream.Transmit.contents g.C.Stream.Receive.remaining place before c.prepare.new.self next next c.in-Ok-connection.got.1 c.in-Ok-connection.got.0 c.prepare.ensures.idle c.prepare.ensures.connect refl c.in-Ok-connection.ensures.gets;
             sent = c.send.new.writer;
             wrote = record {
               is_place = subst (λ u. IsPlaceOf u place) c.uri.ensures c.in-Ok.ensures.place;
