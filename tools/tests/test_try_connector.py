@@ -32,7 +32,7 @@ LEAK = {'Authorization': try_connector.basic(try_connector.CLIENT, try_connector
 
 
 # A resource server in place of the program. Its faults: `opens` a connection for each request, `asks` about each token, `keeps` an answer
-# whatever is said, or `repeats` a request that was not answered on a new connection.
+# whatever is said, `repeats` a request that was not answered on a new connection, or `takes` a token for any server, of any type.
 RESOURCE_SERVER = '''#!%s
 import base64, http.client, json, os, sys, time, urllib.parse
 url, fault = urllib.parse.urlsplit(sys.argv[1]), %r
@@ -52,6 +52,18 @@ def asked(token):
         if not is_used:
             break
     return {'error': 'no reply'}
+def judged(found):
+    if not found['active']:
+        return 'the token is not active'
+    if found.get('exp', 1 << 40) <= time.time():
+        return 'the token has expired'
+    if fault == 'takes':
+        return ''
+    if sys.argv[3] not in (found['aud'] or []):
+        return 'the resource server is not in the audience'
+    if found.get('token_type', 'Bearer') != 'Bearer':
+        return 'the token is of another type'
+    return 'the token is bound to a key that was not proven' if found.get('cnf') else ''
 for line in sys.stdin:
     verb, _, name = line.strip().rpartition(' ')
     if verb:
@@ -64,7 +76,7 @@ for line in sys.stdin:
         kept.pop(name, None)
         if found.get('active'):
             kept[name] = found
-    print(found.get('error') or ('active' if found['active'] else 'inactive'), flush=True)
+    print(found.get('error') or judged(found) or 'authorized', flush=True)
 '''
 
 
@@ -118,11 +130,12 @@ class Rows(unittest.TestCase):
         self.assertEqual(tries.ipv4(), '')
         self.assertEqual(tries.proxy(), 'the proxy got the fields authorization')
 
-    ASKING = ('many_tokens', 'asked_again', 'forgotten', 'expired', 'not_active', 'closed_between', 'taken_and_closed', 'closed_each')
+    ASKING = ('many_tokens', 'asked_again', 'forgotten', 'expired', 'not_active', 'not_meant', 'closed_between', 'taken_and_closed',
+              'closed_each')
 
     def test_a_resource_server(self):
         for fault, failed in ('', ()), ('opens', ('many_tokens', 'taken_and_closed')), ('asks', ('asked_again', 'forgotten')), \
-                ('keeps', ('forgotten', 'expired')), ('repeats', ('closed_each',)):
+                ('keeps', ('forgotten', 'expired')), ('repeats', ('closed_each',)), ('takes', ('not_meant',)):
             path = self.program(RESOURCE_SERVER % (sys.executable, fault))
             tries = try_connector.Tries({'resource_server': path}, os.path.dirname(path))
             for row in failed or self.ASKING:

@@ -1,6 +1,6 @@
 //! Exchanges that end in time, and such as do not.
 
-use crate::slow_server::{Manner, Seconds, SlowServer};
+use crate::slow_server::{Manner, Seconds, SlowServer, TimedServer};
 use http::request::Parts;
 use http::{Method, Request, Version};
 use http_header::HeaderMap;
@@ -51,6 +51,18 @@ const ROWS: &[(Manner, u64, &str)] = &[
         10,
         "Reply(Read(Kind(ConnectionReset))) None",
     ),
+    // the five seconds of the opening count
+    (Manner::OpensLate, 9, "204"),
+    (
+        Manner::OpensLate,
+        8,
+        "Reply(Read(Kind(TimedOut))) Some(AfterSending)",
+    ),
+    (
+        Manner::OpensLate,
+        6,
+        "Write(Kind(TimedOut)) Some(WhileSending)",
+    ),
     (Manner::Unlimited, 10, "Write(Kind(InvalidInput)) None"),
     (Manner::Closed, 10, "Connect(Kind(TimedOut)) None"),
 ];
@@ -72,7 +84,9 @@ fn end_of(rt: &(impl Abort + AllocGlobal), manner: Manner, most_seconds: u64) ->
         manner,
         reply: REPLY.as_bytes(),
     };
-    let connector = DeadlineConnector::new(server, Seconds(0), Duration::from_secs(most_seconds));
+    let clock = Seconds(0);
+    let place = TimedServer { server, clock };
+    let connector = DeadlineConnector::new(place, Duration::from_secs(most_seconds));
     let mut http_client = Http1Client::new(alloc, connector);
     let request = request_of(alloc).expect(rt, "a request");
     match http_client.call(request) {

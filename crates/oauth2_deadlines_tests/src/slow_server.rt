@@ -32,6 +32,8 @@ pub enum Manner {
     Resets,
     /// No limit can be set for its connection.
     Unlimited,
+    /// It takes a connection after five seconds, and then is as `Whole`.
+    OpensLate,
     /// It takes no connection.
     Closed,
 }
@@ -90,15 +92,35 @@ impl LimitedStream for SlowServer<'_> {
     }
 }
 
-impl<'a> LimitedConnect for SlowServer<'a> {
+/// A server, and the clock of its connections.
+#[derive(Clone, Copy)]
+pub struct TimedServer<'a> {
+    pub server: SlowServer<'a>,
+    pub clock: Seconds,
+}
+
+impl<'a> LimitedConnect for TimedServer<'a> {
+    type Clock = Seconds;
+
     type Stream = SlowServer<'a>;
 
     type Error = io::Error;
 
+    fn elapsed(&mut self) -> Duration {
+        self.clock.elapsed()
+    }
+
+    fn clock(&self) -> Seconds {
+        self.clock
+    }
+
     fn connect_within(&mut self, _to: &Origin<'_>, _limit: Duration) -> io::Result<SlowServer<'a>> {
-        if self.manner == Manner::Closed {
+        if self.server.manner == Manner::OpensLate {
+            self.clock.0 = self.clock.0.saturating_add(5);
+        }
+        if self.server.manner == Manner::Closed {
             return Err(io::Error::from(ErrorKind::TimedOut));
         }
-        Ok(*self)
+        Ok(self.server)
     }
 }
