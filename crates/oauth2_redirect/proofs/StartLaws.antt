@@ -13,6 +13,8 @@ use Rattle.oauth2_wire.specs.Texts.{given_text}
 use Rattle.oauth2_requests.specs.Authorization.{Authorization, challenge_pairs, scope_pairs, query_pairs}
 use Rattle.oauth2_form.specs.Query.{ExtendsQuery, query_form}
 use Rattle.oauth2.proofs.CodeFlowLaws.{none_of, read-behind}
+use Rattle.oauth2_urls.specs.Addressed.{Addressed}
+use Rattle.oauth2_redirect.specs.Redirect.{IssuerExpectation}
 use Rattle.oauth2_redirect.specs.Login.{login_view_of}
 use Rattle.oauth2_redirect.specs.Start.{ShowsLogin}
 
@@ -72,9 +74,9 @@ redirect_uri-is_own : is_own_name (codes "redirect_uri") ≡ true
 unfolding is_request_name is_shared_name
 redirect_uri-is_own = refl
 
-pub shows : (old new : Parts) (r : Authorization) (verifier : List ℕ) → ExtendsQuery old new (query_pairs r) → r.pkce_challenge ≡ Some (sha256_challenge verifier)
-    → avoid_own_names (query_form old) ≡ true → avoid_own_names r.extra_params ≡ true → ShowsLogin (login_view_of r.state verifier r.redirect_url) (query_form new)
-shows old new r verifier extends is avoid extra =
+pub shows : (old new : Parts) (r : Authorization) (verifier : List ℕ) (uri : Addressed) (issuer : IssuerExpectation) (token_url : List ℕ) → ExtendsQuery old new (query_pairs r) → r.pkce_challenge ≡ Some (sha256_challenge verifier) → r.redirect_url ≡ Some uri
+    → avoid_own_names (query_form old) ≡ true → avoid_own_names r.extra_params ≡ true → ShowsLogin (login_view_of r.state verifier uri issuer r.client_id token_url) (query_form new)
+shows old new r verifier uri issuer token_url extends is there avoid extra =
     let redirect = option_map given_text r.redirect_url in
     let scope = joined_words r.scopes in
     let first = required r.response_type r.client_id r.state in
@@ -88,5 +90,5 @@ shows old new r verifier extends is avoid extra =
       read _ state-is_own ∙ state-read r.response_type r.client_id r.state c redirect scope,
       read _ challenge-is_own ∙ challenge-read r.response_type r.client_id r.state c redirect scope,
       read _ method-is_own ∙ method-read r.response_type r.client_id r.state c redirect scope,
-      read _ redirect_uri-is_own ∙ redirect_uri-read r.response_type r.client_id r.state c redirect scope,
+      read _ redirect_uri-is_own ∙ redirect_uri-read r.response_type r.client_id r.state c redirect scope ∙ ap (option_map given_text) there,
     )

@@ -9,9 +9,13 @@ use Rattle.oauth2_form.specs.Pairs.{Pair}
 use Rattle.oauth2_wire.specs.ByName.{bears}
 use Rattle.oauth2_redirect.specs.Query.{has_value, sent_pairs}
 
+-- the parameters that are left
+abbrev pub pairs_left : RawPairs → List Pair
+pairs_left it = map (λ (n, v). (decode n, decode v)) (raw_pairs_left it)
+
 -- the parameters of the name among those that are left
 abbrev pub left : List ℕ → RawPairs → List Pair
-left name it = filter (bears name) (sent_pairs (map (λ (n, v). (decode n, decode v)) (raw_pairs_left it)))
+left name it = filter (bears name) (sent_pairs (pairs_left it))
 
 -- the parameter that was found
 abbrev pub kept : List ℕ → Option (Bor (List ℕ)) → List Pair

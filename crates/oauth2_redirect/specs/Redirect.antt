@@ -1,9 +1,11 @@
 -- What the redirect of an authorization endpoint says (RFC 6749, 4.1.2 and 4.1.2.1; RFC 9207, 2.4).
-use Rattle.std.specs.Prelude.{◌≡◌, ℕ, List, [], ◌∷◌, Option, Some, None, Result, Ok, Err, Bool, true, false, if◌then◌else◌, codes, bytes_eq, IfSome, IsTrue}
+use Rattle.std.specs.Prelude.{◌≡◌, ℕ, List, [], ◌∷◌, Option, Some, None, option_map, Result, Ok, Err, Bool, true, false, if◌then◌else◌, codes, bytes_eq, string_bytes, IfSome, IsTrue}
 use Rattle.oauth2_types.specs.Digest.{digest_eq}
 use Rattle.oauth2_codes.specs.ErrorResponse.{ErrorParts, parts_of_error, parts_of, error_text}
 use Rattle.oauth2_redirect.specs.declared.issuer.ExpectedIssuer.{ExpectedIssuer}
 use Rattle.oauth2_redirect.specs.declared.issuer.ExpectedIssuer.TheVariants as issuers
+use Rattle.oauth2_redirect.specs.declared.issuer.LoginIssuer.{LoginIssuer}
+use Rattle.oauth2_redirect.specs.declared.issuer.LoginIssuer.TheVariants.{InEachRedirect, OwnRedirectUri}
 use Rattle.oauth2_redirect.specs.declared.redirect.RedirectError.{RedirectError}
 use Rattle.oauth2_redirect.specs.declared.redirect.RedirectError.TheVariants as errors
 use Rattle.oauth2_codes.specs.AuthorizationCodes.{AuthorizationErrorCode, authorization_error_code, authorization_error_code_of, authorization_error_code_text}
@@ -34,6 +36,17 @@ abbrev pub issuer_expectation : ExpectedIssuer → IssuerExpectation
 issuer_expectation (issuers.Required issuer) = required issuer.now
 issuer_expectation (issuers.Compared issuer) = compared issuer.now
 issuer_expectation issuers.Unknown = unknown
+
+-- the expectation of an issuer that a redirect may leave out, if it is known at all
+abbrev pub compared_if_known : Option (List ℕ) → IssuerExpectation
+compared_if_known (Some issuer) = compared issuer
+compared_if_known None = unknown
+
+-- the expectation that a `LoginIssuer` stands for: each redirect names the issuer (RFC 9207, 3), or
+-- the redirect URI is used for one server alone (RFC 9700, 4.4.2.2)
+abbrev pub expectation_of : LoginIssuer → IssuerExpectation
+expectation_of (InEachRedirect issuer) = required (string_bytes issuer)
+expectation_of (OwnRedirectUri issuer) = compared_if_known (option_map string_bytes issuer)
 
 -- whether a redirect with these values of `iss` may come from the expected issuer (RFC 9207, 2.4):
 -- a single value must equal it byte for byte, and several are refused (RFC 6749, 3.1)

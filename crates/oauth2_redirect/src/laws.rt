@@ -1,6 +1,6 @@
 //! Laws: a login's URL and its token request agree when a server compares them.
 
-ghost use Rattle.std.specs.Prelude.{◌≡◌, ℕ, List, Some};
+ghost use Rattle.std.specs.Prelude.{ℕ, List};
 ghost use Rattle.url.specs.Parts.{serialize};
 ghost use Rattle.oauth2_urls.specs.Addressed.{Addressed};
 ghost use Rattle.oauth2_form.specs.Pairs.{Pair, form};
@@ -26,11 +26,10 @@ pub fn login_passes_check()
 /// A login's token request repeats the redirect URI of the login's URL (RFC 6749, section 4.1.3),
 /// whatever redirect URI the client has by then.
 pub fn login_repeats_redirect_uri()
-    ensures { (login : LoginView) (uri : Addressed) (query : List Pair) (client : Settings)
-        (endpoint : Addressed) (code : List ℕ) (v : RequestView)
-        → login.redirect_uri ≡ Some uri
+    ensures { (login : LoginView) (query : List Pair) (client : Settings) (endpoint : Addressed)
+        (code : List ℕ) (v : RequestView)
         → ShowsLogin login query
         → IsRequestOf (code_configuration (login_exchange client endpoint login code))
         (serialize endpoint.url) v
-        → RepeatsRedirectUri uri.text query (form v.body) }
+        → RepeatsRedirectUri login.redirect_uri.text query (form v.body) }
 {}

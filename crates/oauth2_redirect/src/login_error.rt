@@ -1,7 +1,6 @@
 //! Why a login returned no token.
 
-use crate::login::Login;
-use crate::redirect::RedirectError;
+use crate::login_refusal::RefusedLogin;
 use oauth2_types::display::write_display;
 use oauth2_wire::RequestTokenError;
 use std::fmt;
@@ -9,13 +8,9 @@ use std::fmt;
 /// Why a login returned no token.
 #[derive(Drop)]
 pub enum LoginError<RE, T> {
-    /// The redirect has no code or is not this login's, or memory ran out before the token request.
-    /// The HTTP client was not called.
-    Redirect {
-        error: RedirectError,
-        /// The login as it was, to be finished by another redirect.
-        login: Login,
-    },
+    /// The redirect, the client or the called URL is not this login's, the redirect has no code, or
+    /// memory ran out before the token request. The HTTP client was not called.
+    Refused(RefusedLogin),
     /// The token request failed.
     Token(RequestTokenError<RE, T>),
 }
@@ -29,7 +24,7 @@ impl<RE, T: fmt::Display> fmt::Display for LoginError<RE, T> {
 
     fn fmt<W: fmt::Write>(&self, f: &mut fmt::Formatter<W>) -> fmt::Result {
         match self {
-            LoginError::Redirect { error, login: _ } => write_display(f, error),
+            LoginError::Refused(refused) => write_display(f, &refused.error),
             LoginError::Token(error) => write_display(f, error),
         }
     }
@@ -40,6 +35,17 @@ where
     RE: fmt::Debug + Drop,
     T: fmt::Debug + fmt::Display + Drop,
 {}
+
+impl<RE, T> From<RefusedLogin> for LoginError<RE, T> {
+    ghost use Rattle.std.specs.Prelude.{◌≡◌};
+    ghost use Rattle.oauth2_redirect.specs.declared.login_error.LoginError.TheVariants.{Refused};
+
+    ghost from_gives = { λ refused e. e ≡ Refused refused };
+
+    fn from(refused: RefusedLogin) -> LoginError<RE, T> {
+        LoginError::Refused(refused)
+    }
+}
 
 impl<RE, T> From<RequestTokenError<RE, T>> for LoginError<RE, T> {
     ghost use Rattle.std.specs.Prelude.{◌≡◌};
@@ -67,7 +73,7 @@ impl<RE, T> fmt::Debug for LoginError<RE, T> {
             (login_error_debug self.now) f.new }
     {
         f.write_str(match self {
-            LoginError::Redirect { error: _, login: _ } => "Redirect([redacted])",
+            LoginError::Refused(_) => "Refused([redacted])",
             LoginError::Token(_) => "Token([redacted])",
         })
     }

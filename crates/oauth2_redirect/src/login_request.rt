@@ -14,18 +14,21 @@ ghost use Rattle.std.specs.Prelude.{
   Some,
   codes,
   option_copied,
+  string_bytes,
 };
 ghost use Rattle.std.specs.Fmt.{DisplaysOnOk, WritesStyledOnOk};
 ghost use Rattle.oauth2_types.specs.Pkce.{sha256_challenge};
+ghost use Rattle.oauth2_urls.specs.Addressed.{Addressed};
 ghost use Rattle.oauth2_wire.specs.ByName.{avoid_own_names};
 ghost use Rattle.oauth2_wire.specs.Texts.{param_bytes};
 ghost use Rattle.oauth2_requests.specs.Authorization.{query_pairs};
 ghost use Rattle.oauth2_form.specs.Query.{ExtendsQuery, query_form};
-ghost use Rattle.oauth2_redirect.specs.Start.{IsUrlRefusal, ShowsLogin};
+ghost use Rattle.oauth2_redirect.specs.Redirect.{expectation_of};
+ghost use Rattle.oauth2_redirect.specs.Start.{IsUrlRefusal, ShowsLogin, url_fault};
 ghost use Rattle.oauth2_redirect.specs.Login.{login_view_of};
 
-use crate::login::Login;
-use crate::login_url_error::LoginUrlError;
+use crate::login::{Login, LoginServer};
+use crate::login_url_error::{LoginUrlError, LoginUrlFault};
 use oauth2_requests::AuthorizationRequest;
 use oauth2_types::{CsrfToken, PkceCodeVerifier, Scope, TryClone};
 use oauth2_urls::RedirectUrl;
@@ -42,42 +45,59 @@ pub struct LoginRequest<'a> {
     state: CsrfToken,
     verifier: PkceCodeVerifier,
     redirect_uri: Option<&'a RedirectUrl>,
+    server: LoginServer,
 }
 
 impl<'a> Model for LoginRequest<'a> {
-    ghost use Rattle.std.specs.Prelude.{◌≡◌, Some, option_copied};
+    ghost use Rattle.std.specs.Prelude.{◌≡◌, Some, option_copied, string_bytes};
     ghost use Rattle.oauth2_types.specs.Pkce.{sha256_challenge};
+    ghost use Rattle.oauth2_redirect.specs.Redirect.{expectation_of};
     ghost use Rattle.oauth2_redirect.specs.Start.{Starting};
 
     ghost Value = { Starting };
 
-    ghost view = { λ l. record { request = l.request; verifier = l.verifier } };
+    ghost view = { λ l. record {
+      request = l.request;
+      verifier = l.verifier;
+      issuer = expectation_of l.server.issuer;
+      token_url = string_bytes l.server.token_url;
+    } };
 
-    // The request sends the verifier's challenge, and the state and redirect URI that are kept.
+    // The request sends the verifier's challenge, and the state, the redirect URI and the client's
+    // identifier that are kept.
     ghost invariant = { λ l. (l.request.pkce_challenge ≡ Some (sha256_challenge l.verifier))
         × (l.request.state ≡ l.state)
-        × (l.request.redirect_url ≡ option_copied l.redirect_uri) };
+        × (l.request.redirect_url ≡ option_copied l.redirect_uri)
+        × (l.request.client_id ≡ l.server.client_id) };
 }
 
 impl<'a> LoginRequest<'a> {
-    // A login by this request, which sends the verifier's challenge, the state and the redirect
-    // URI.
+    // A login at this server by this request, which sends the verifier's challenge, the state, the
+    // redirect URI and the client's identifier.
     pub(crate) fn new(
         request: AuthorizationRequest<'a>,
         state: CsrfToken,
         verifier: PkceCodeVerifier,
         redirect_uri: Option<&'a RedirectUrl>,
+        server: LoginServer,
     ) -> Self
         requires challenge { request.pkce_challenge ≡ Some (sha256_challenge verifier) }
         requires state { request.state ≡ state }
         requires redirect_uri { request.redirect_url ≡ option_copied redirect_uri }
-        ensures { result ≡ record { request = request.entry; verifier = verifier } }
+        requires client_id { request.client_id ≡ server.client_id }
+        ensures { result ≡ record {
+          request = request.entry;
+          verifier = verifier;
+          issuer = expectation_of server.issuer;
+          token_url = string_bytes server.token_url;
+        } }
     {
         LoginRequest {
             request,
             state,
             verifier,
             redirect_uri,
+            server,
         }
     }
 
@@ -101,6 +121,7 @@ impl<'a> LoginRequest<'a> {
             state: self.state,
             verifier: self.verifier,
             redirect_uri: self.redirect_uri,
+            server: self.server,
         })
     }
 
@@ -121,6 +142,7 @@ impl<'a> LoginRequest<'a> {
             state: self.state,
             verifier: self.verifier,
             redirect_uri: self.redirect_uri,
+            server: self.server,
         })
     }
 
@@ -142,6 +164,7 @@ impl<'a> LoginRequest<'a> {
             state: self.state,
             verifier: self.verifier,
             redirect_uri: self.redirect_uri,
+            server: self.server,
         })
     }
 
@@ -157,16 +180,20 @@ impl<'a> LoginRequest<'a> {
             state: self.state,
             verifier: self.verifier,
             redirect_uri: Some(redirect_uri),
+            server: self.server,
         }
     }
 
-    /// The URL to send the user to, and what to keep until the user is back. An error holds this
-    /// request, so that `url` can be called again.
+    /// The URL to send the user to, and what to keep until the user is back. A redirect URI is
+    /// required, since the redirect must come to it. An error holds this request, so that `url` can
+    /// be called again.
     pub fn url(self, alloc: Global) -> Result<(Url, Login), LoginUrlError<'a>>
         ensures url { IfOk result (λ (url, _).
             ExtendsQuery self.entry.request.auth_url.url url (query_pairs self.entry.request)) }
         ensures kept { IfOk result (λ (_, login). let request = self.entry.request in
-            login ≡ login_view_of request.state self.entry.verifier request.redirect_url) }
+            (uri : Addressed) × (request.redirect_url ≡ Some uri)
+            × (login ≡ login_view_of request.state self.entry.verifier uri self.entry.issuer
+            request.client_id self.entry.token_url)) }
 
         // The parameters that a server finds in the URL.
         ensures shows { IsTrue (avoid_own_names (query_form self.entry.request.auth_url.url))
@@ -178,7 +205,7 @@ impl<'a> LoginRequest<'a> {
         match self.url_and_redirect_uri(alloc) {
             Ok((url, redirect_uri)) => Ok((
                 url,
-                Login::new(self.state, self.verifier, redirect_uri),
+                Login::new(self.state, self.verifier, redirect_uri, self.server),
             )),
             Err(error) => Err(LoginUrlError {
                 error,
@@ -188,18 +215,34 @@ impl<'a> LoginRequest<'a> {
     }
 
     // The URL, and a copy of the redirect URI.
-    fn url_and_redirect_uri(&self, alloc: Global) -> Result<(Url, Option<RedirectUrl>), ParseError>
+    fn url_and_redirect_uri(&self, alloc: Global) -> Result<(Url, RedirectUrl), LoginUrlFault>
         ensures url { IfOk result (λ (url, _).
             ExtendsQuery self.now.request.auth_url.url url (query_pairs self.now.request)) }
-        ensures redirect_uri { IfOk result (λ (_, uri). uri ≡ self.now.request.redirect_url) }
+        ensures redirect_uri { IfOk result (λ (_, uri). self.now.request.redirect_url ≡ Some uri) }
         ensures refusal { IfErr result (IsUrlRefusal self.now.request) }
     {
+        let Some(redirect_uri) = self.redirect_uri else {
+            return Err(LoginUrlFault::NoRedirectUri);
+        };
         // Made first, so that a URL that is too long is reported even if the copy would fail.
-        let url = self.request.authorization_url(alloc)?;
-        match self.redirect_uri {
-            Some(redirect_uri) => Ok((url, Some(redirect_uri.try_clone(alloc)?))),
-            None => Ok((url, None)),
+        let url = match self.request.authorization_url(alloc) {
+            Ok(url) => url,
+            Err(error) => return Err(fault_of(error)),
+        };
+        match redirect_uri.try_clone(alloc) {
+            Ok(redirect_uri) => Ok((url, redirect_uri)),
+            Err(_) => Err(LoginUrlFault::Memory),
         }
+    }
+}
+
+// The fault for an error of making the URL.
+fn fault_of(error: ParseError) -> LoginUrlFault
+    ensures { result ≡ url_fault error }
+{
+    match error {
+        ParseError::Overflow => LoginUrlFault::TooLong,
+        _ => LoginUrlFault::Memory,
     }
 }
 

@@ -1,41 +1,81 @@
 //! Why a login has no URL.
 
 use crate::login_request::LoginRequest;
+use oauth2_types::display::write_display;
+use std::alloc::AllocError;
 use std::fmt;
-use url::ParseError;
+
+/// Why a login has no URL.
+#[derive(Clone, Copy, Debug, PartialEq, Eq)]
+pub enum LoginUrlFault {
+    /// Neither the client nor the login has a redirect URI.
+    NoRedirectUri,
+    /// The URL would be longer than a `Url` can be.
+    TooLong,
+    /// Memory ran out.
+    Memory,
+}
+
+impl fmt::Display for LoginUrlFault {
+    ghost use Rattle.oauth2_redirect.specs.Start.{url_fault_text};
+
+    ghost output = { url_fault_text };
+
+    ghost styled_output = { λ fault _. url_fault_text fault };
+
+    fn fmt<W: fmt::Write>(&self, f: &mut fmt::Formatter<W>) -> fmt::Result {
+        f.write_str(match self {
+            LoginUrlFault::NoRedirectUri => "login has no redirect URI",
+            LoginUrlFault::TooLong => "authorization URL is too long",
+            LoginUrlFault::Memory => "Out of memory",
+        })
+    }
+}
+
+impl std::error::Error for LoginUrlFault {}
+
+impl From<AllocError> for LoginUrlFault {
+    ghost use Rattle.std.specs.Prelude.{◌≡◌};
+    ghost use Rattle.oauth2_redirect.specs.declared.login_url_error.LoginUrlFault.TheVariants.{
+      Memory,
+    };
+
+    ghost from_gives = { λ _ fault. fault ≡ Memory };
+
+    fn from(_: AllocError) -> LoginUrlFault {
+        LoginUrlFault::Memory
+    }
+}
 
 /// Why a login has no URL, and the login itself.
 #[derive(Drop)]
 pub struct LoginUrlError<'a> {
-    /// `Overflow` if the URL would be longer than a `Url` can be, and else `OutOfMemory`.
-    pub error: ParseError,
+    /// Why there is no URL.
+    pub error: LoginUrlFault,
     /// The login as it was.
     pub request: LoginRequest<'a>,
 }
 
 impl fmt::Display for LoginUrlError<'_> {
-    ghost use Rattle.oauth2_redirect.specs.Start.{login_url_error_text};
+    ghost use Rattle.oauth2_redirect.specs.Start.{url_fault_text};
 
-    ghost output = { λ refused. login_url_error_text refused.error };
+    ghost output = { λ refused. url_fault_text refused.error };
 
-    ghost styled_output = { λ refused _. login_url_error_text refused.error };
+    ghost styled_output = { λ refused _. url_fault_text refused.error };
 
     fn fmt<W: fmt::Write>(&self, f: &mut fmt::Formatter<W>) -> fmt::Result {
-        f.write_str(match self.error {
-            ParseError::Overflow => "authorization URL is too long",
-            _ => "Out of memory",
-        })
+        write_display(f, &self.error)
     }
 }
 
 impl std::error::Error for LoginUrlError<'_> {}
 
-impl From<LoginUrlError<'_>> for ParseError {
+impl From<LoginUrlError<'_>> for LoginUrlFault {
     ghost use Rattle.std.specs.Prelude.{◌≡◌};
 
-    ghost from_gives = { λ refused e. e ≡ refused.error };
+    ghost from_gives = { λ refused fault. fault ≡ refused.error };
 
-    fn from(refused: LoginUrlError<'_>) -> ParseError {
+    fn from(refused: LoginUrlError<'_>) -> LoginUrlFault {
         refused.error
     }
 }

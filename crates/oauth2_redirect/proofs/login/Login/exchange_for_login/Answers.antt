@@ -1,8 +1,0 @@
-use Rattle.std.proofs.Common.{Ok, Err, inl, refl}
-use Rattle.oauth2_redirect.proofs.login.Login.exchange_for_login.Goals as goal
-
-pub returns-in-Ok-clause-end : goal.returns-in-Ok-clause-end
-returns-in-Ok-clause-end g c = inl (c.args.code, refl, Ok c.in-Ok.token, refl, c.in-Ok.ensures.once)
-
-pub returns-in-Err-clause-end : goal.returns-in-Err-clause-end
-returns-in-Err-clause-end g c = inl (c.args.code, refl, Err c.in-Err.error, refl, c.in-Err.ensures.once)
