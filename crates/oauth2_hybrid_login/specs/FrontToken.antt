@@ -1,38 +1,31 @@
 -- The ID token that comes through the front channel (OpenID Connect Core 1.0, 3.3.2.8 to 3.3.2.12).
-use Rattle.std.specs.Prelude.{◌≡◌, ◌≢◌, ℕ, ℤ, List, ◌++◌, codes, false, IsTrue, Some, None, IsSomeAnd, Result, Ok, Err}
-use Rattle.serde_json.specs.Find.{get}
+use Rattle.std.specs.Prelude.{◌≡◌, ℕ, ℤ, List, ◌++◌, codes, false, IsTrue, Some, None, IsSomeAnd, Result, Ok, Err}
 use Rattle.oauth2_openid.specs.declared.claims_error.ClaimsError.{ClaimsError}
 use Rattle.oauth2_openid.specs.declared.id_token.IdToken.{IdToken}
 use Rattle.oauth2_openid.specs.Claims.{Expectation}
 use Rattle.oauth2_openid.specs.ErrorTexts.{claims_error_text, id_token_read_error_text}
-use Rattle.oauth2_openid.specs.Checks.{Verdict, ◌then◌}
-use Rattle.oauth2_openid.specs.Rules.{claims_checked, ClaimsHold}
+use Rattle.oauth2_openid.specs.Checks.{Verdict}
 use Rattle.oauth2_openid.specs.Reading.{compact_token_reading}
 use Rattle.oauth2_openid.specs.Seen.{token_of}
-use Rattle.oauth2_openid.specs.Token.{DecodedToken, TokenFault, not_three_parts}
-use Rattle.oauth2_openid.specs.TokenRules.{algorithm_rule, critical_rule, tenant_of, IsAlgorithm}
+use Rattle.oauth2_openid.specs.Token.{DecodedToken, TokenFault, FindsParts}
+use Rattle.oauth2_openid.specs.TokenRules.{rules_checked, RulesHold}
 use Rattle.oauth2_keys.specs.ErrorTexts.{signature_error_text}
 use Rattle.oauth2_openid_login.specs.End.{fault_told}
-use Rattle.oauth2_verified_login.specs.Signature.{Check, IsSigned, IsSignatureRefusal}
+use Rattle.oauth2_keys.specs.Signature.{Check, IsSigned, IsSignatureRefusal}
 use Rattle.oauth2_hybrid_login.specs.declared.front_token_error.FrontTokenError.{FrontTokenError}
 use Rattle.oauth2_hybrid_login.specs.declared.front_token_error.FrontTokenError.TheVariants.{Read, Claims, NoCodeHash, OtherCode, Signature, Memory}
 use Rattle.oauth2_hybrid_login.specs.CodeHash.{code_hash_of, is_code_hash}
 
--- 3.3.2.12: the rules of 3.1.3.7 for a token that came without an access token, in this order: the
--- first broken rule is the error
+-- 3.3.2.12: the rules of 3.1.3.7 for a token that came without an access token: the first broken
+-- rule is the error
 abbrev pub front_rules : Expectation → ℤ → DecodedToken → Verdict ClaimsError
-front_rules expected now token =
-    algorithm_rule expected token.header.own
-    then critical_rule token.header
-    then claims_checked expected now (tenant_of token.claims.others) token.claims.own
+front_rules expected now token = rules_checked expected now token
 
 -- the token meets 3.1.3.7, except for its signature, for a client that expects this, at the moment
 -- `now` (nanoseconds since 1970-01-01T00:00:00Z), and its `c_hash`, which it must have, is the hash
 -- of this code (3.3.2.11)
 pub record FrontHolds (expected : Expectation) (code : List ℕ) (now : ℤ) (token : DecodedToken) : Type 0 where
-  pub algorithm : IsAlgorithm expected.algorithm token.header.own.algorithm
-  pub no_extension : get (codes "crit") token.header.others ≡ None
-  pub claims : ClaimsHold expected now (tenant_of token.claims.others) token.claims.own
+  pub rules : RulesHold expected now token
   pub code_hash : IsSomeAnd (code_hash_of token) (λ told. IsTrue (is_code_hash token.header.own.algorithm code told))
 
 -- the error says what is wrong first with a token that was read: a rule of 3.1.3.7, its `c_hash`,
@@ -71,7 +64,7 @@ JudgesFrontToken expected check code now text (Ok token) =
 JudgesFrontToken expected check code now text (Err (Read error)) =
     (fault : TokenFault) × (fault_told error ≡ Some fault) × (compact_token_reading text ≡ Err fault)
 JudgesFrontToken expected check code now text (Err Memory) =
-    compact_token_reading text ≢ Err not_three_parts
+    FindsParts (compact_token_reading text)
 JudgesFrontToken expected check code now text (Err error) =
     (token : DecodedToken) × (compact_token_reading text ≡ Ok token)
     × IsFrontRefusal expected check code now token error

@@ -1,3 +1,4 @@
 pub mod CodeHash
+pub mod FrontNonce
 pub mod FrontToken
 pub mod private

@@ -4,7 +4,7 @@
 ghost use Rattle.std.specs.Prelude.{◌≡◌, ◌↔◌, ℤ, IsTrue, Ok, option_copied};
 ghost use Rattle.oauth2_openid.specs.Claims.{Expectation};
 ghost use Rattle.oauth2_openid.specs.Seen.{token_of};
-ghost use Rattle.oauth2_verified_login.specs.Signature.{check_of};
+ghost use Rattle.oauth2_keys.specs.Signature.{check_of};
 ghost use Rattle.oauth2_hybrid_login.specs.CodeHash.{code_hash_of};
 ghost use Rattle.oauth2_hybrid_login.specs.FrontToken.{
   ChecksFrontToken,
@@ -50,6 +50,7 @@ fn read_error(error: IdTokenReadError) -> FrontTokenError
     ensures { result ≡ unread_as error }
 {
     match error {
+        IdTokenReadError::TooLong => FrontTokenError::Read(IdTokenReadError::TooLong),
         IdTokenReadError::NotThreeParts => FrontTokenError::Read(IdTokenReadError::NotThreeParts),
         IdTokenReadError::NotBase64(part) => FrontTokenError::Read(IdTokenReadError::NotBase64(
             part,

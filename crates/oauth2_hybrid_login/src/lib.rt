@@ -4,9 +4,11 @@
 #![tactic(auto)]
 
 mod code_hash;
+mod front_expected;
 mod front_token;
 mod front_token_error;
 mod verified_front_token;
 
+pub use front_expected::FrontExpected;
 pub use front_token_error::FrontTokenError;
 pub use verified_front_token::VerifiedFrontToken;

@@ -1,15 +1,17 @@
 //! A verified ID token of the front channel.
 
 ghost use Rattle.std.specs.Fmt.{DisplaysOnOk, WritesStyledOnOk};
-ghost use Rattle.std.specs.Prelude.{◌≡◌, ◌↔◌, IsTrue, Some, codes};
+ghost use Rattle.std.specs.Prelude.{◌≡◌, ◌↔◌, IfOk, IsTrue, Some, codes};
 ghost use Rattle.oauth2_openid.specs.Seen.{token_of};
-ghost use Rattle.oauth2_verified_login.specs.Signature.{check_of};
+ghost use Rattle.oauth2_keys.specs.Signature.{check_of};
+ghost use Rattle.oauth2_hybrid_login.specs.FrontNonce.{HasSentNonce};
 ghost use Rattle.oauth2_hybrid_login.specs.FrontToken.{IsSameUser, JudgesFrontToken};
 
+use crate::front_expected::FrontExpected;
 use crate::front_token::{is_same_user, read_front_token};
 use crate::front_token_error::FrontTokenError;
 use jiff::Timestamp;
-use oauth2_openid::{Expected, IdToken};
+use oauth2_openid::IdToken;
 use oauth2_types::AuthorizationCode;
 use oauth2_verified_login::SignatureCheck;
 use std::alloc::Global;
@@ -17,8 +19,8 @@ use std::fmt;
 use std::marker::Model;
 
 /// An ID token that came with a code through the user's browser. It meets each rule of OpenID Connect
-/// Core 1.0, 3.1.3.7, its signature is right, and its `c_hash` is the hash of that code. Only `verify`
-/// makes one. Contracts see it as an `IdToken`.
+/// Core 1.0, 3.1.3.7, its signature is right, its nonce is the login's, and its `c_hash` is the hash of
+/// that code. Only `verify` makes one. Contracts see it as an `IdToken`.
 #[derive(Drop)]
 pub struct VerifiedFrontToken {
     token: IdToken,
@@ -38,21 +40,22 @@ impl Model for VerifiedFrontToken {
 
 impl VerifiedFrontToken {
     /// Reads the text of the ID token that came with this code, and checks it at the moment `now`:
-    /// each rule of 3.1.3.7, where `expected` should have the nonce of the login and the algorithm of
-    /// the check, the hash of the code, which is required (3.3.2.11), and the signature. Send the code
-    /// only if this succeeds (3.3.2.8).
+    /// each rule of 3.1.3.7, where `expected` should have the algorithm of the check, the hash of the
+    /// code, and the signature. Nonce and hash are required (3.3.2.11). Send the code only if this
+    /// succeeds (3.3.2.8).
     pub fn verify(
         alloc: Global,
         text: &str,
         code: &AuthorizationCode,
-        expected: &Expected,
+        expected: &FrontExpected,
         check: SignatureCheck<'_>,
         now: Timestamp,
     ) -> Result<VerifiedFrontToken, FrontTokenError>
-        ensures { JudgesFrontToken expected.now (check_of check.entry) code.now now.nanosecond
-            text.now result }
+        ensures judged { JudgesFrontToken expected.now (check_of check.entry) code.now
+            now.nanosecond text.now result }
+        ensures nonce { IfOk result (λ token. HasSentNonce expected.now (token_of token)) }
     {
-        match read_front_token(alloc, text, code, expected, check, now) {
+        match read_front_token(alloc, text, code, expected.expected(), check, now) {
             Ok(token) => Ok(VerifiedFrontToken { token }),
             Err(error) => Err(error),
         }

@@ -2,7 +2,7 @@
 
 use jiff::Timestamp;
 use oauth2::{AuthorizationCode, ClientId, ClientSecret, FromJson};
-use oauth2_hybrid_login::{FrontTokenError, VerifiedFrontToken};
+use oauth2_hybrid_login::{FrontExpected, FrontTokenError, VerifiedFrontToken};
 use oauth2_keys::{JsonWebKeySet, SecretAlgorithm, SignatureAlgorithm};
 use oauth2_openid::{Expected, IdToken, IssuerRule, Nonce};
 use oauth2_verified_login::SignatureCheck;
@@ -29,21 +29,22 @@ fn check_of<'a>(
 }
 
 // What the client of the standard's examples expects of a token with this algorithm.
-fn expected(alloc: Global, algorithm: &str) -> Result<Expected, AllocError> {
+fn expected(alloc: Global, algorithm: &str) -> Result<FrontExpected, AllocError> {
     let issuer = String::from_str(alloc, "http://server.example.com")?;
     let client_id = ClientId::from_str(alloc, "s6BhdRkqt3")?;
     let algorithm = String::from_str(alloc, algorithm)?;
     let nonce = String::from_str(alloc, "n-0S6_WzA2Mj")?;
-    Ok(Expected {
+    let expected = Expected {
         issuer: IssuerRule::Is(issuer),
         client_id,
         other_audiences: Vec::new(alloc),
         authorized_parties: Vec::new(alloc),
         algorithm: Some(algorithm),
-        nonce: Some(Nonce::new(nonce)),
+        nonce: None,
         leeway: Duration::from_secs(60),
         max_age: None,
-    })
+    };
+    Ok(FrontExpected::new(expected, Nonce::new(nonce)))
 }
 
 // The result for a token with this algorithm that came with this code.

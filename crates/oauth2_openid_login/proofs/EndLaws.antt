@@ -7,19 +7,21 @@ use Rattle.oauth2_json.specs.Reading.{Reading}
 use Rattle.oauth2_wire.specs.Request.{HttpRequest}
 use Rattle.oauth2_wire.specs.Reply.{HttpResponse}
 use Rattle.oauth2.specs.Settings.{Settings}
-use Rattle.oauth2_redirect.specs.Redirect.{RedirectErrorView}
-use Rattle.oauth2_redirect.specs.declared.redirect.RedirectError.{RedirectError}
+use Rattle.url.specs.Parts.{Parts}
+use Rattle.oauth2_form.specs.Pairs.{Pair}
 use Rattle.std.proofs.lemmas.Option.{none-some}
 use Rattle.oauth2_openid.specs.declared.read_error.IdTokenReadError.{IdTokenReadError}
 use Rattle.oauth2_openid.specs.declared.read_error.IdTokenReadError.TheVariants as read
 use Rattle.oauth2_openid.specs.Claims.{Expectation}
-use Rattle.oauth2_openid.specs.Token.{DecodedToken, TokenReading, TokenErrsAs, not_three_parts, not_base64, at_fault}
+use Rattle.oauth2_openid.specs.Token.{DecodedToken, TokenReading, TokenErrsAs, too_long, not_three_parts, not_base64, at_fault}
 use Rattle.oauth2_json.specs.Reading.{fault_of}
 use Rattle.oauth2_openid_login.specs.declared.login_error.OpenIdLoginError.{OpenIdLoginError}
 use Rattle.oauth2_openid_login.specs.End.{JudgesIdToken, EndsOpenIdLogin, id_token_reading}
-use Rattle.oauth2_openid_login.specs.declared.login_error.OpenIdLoginError.TheVariants.{Redirect}
+use Rattle.oauth2_openid_login.specs.declared.login_error.OpenIdLoginError.TheVariants.{Refused}
 use Rattle.oauth2_openid_login.specs.declared.login_end.OpenIdLoginEnd.{OpenIdLoginEnd}
+use Rattle.oauth2_openid_login.specs.declared.login_refusal.RefusedOpenIdLogin.{RefusedOpenIdLogin}
 use Rattle.oauth2_openid_login.specs.Login.{OpenIdKept}
+use Rattle.oauth2_openid_login.specs.Provider.{Provider, expected_of}
 use Rattle.oauth2_openid_login.specs.private.Told.{told_as}
 
 -- what reads to something is there
@@ -31,18 +33,19 @@ module _ {D RE T : Type 0} (access_token : D → List ℕ) (id_token : D → Opt
   pub JudgesIdToken-unread : (error : IdTokenReadError) (told : TokenReading DecodedToken) (unread : OpenIdLoginError RE T) → unread ≡ told_as error
       → id_token_reading (id_token response) ≡ Some told → TokenErrsAs error told
       → JudgesIdToken access_token id_token expected now response (Err unread)
+  JudgesIdToken-unread read.TooLong told unread same is errs = rw same (too_long, refl, is ∙ ap Some errs)
   JudgesIdToken-unread read.NotThreeParts told unread same is errs = rw same (not_three_parts, refl, is ∙ ap Some errs)
   JudgesIdToken-unread (read.NotBase64 part) told unread same is errs = rw same (not_base64 part, refl, is ∙ ap Some errs)
   JudgesIdToken-unread (read.Fault part fault) told unread same is errs = rw same (at_fault part (fault_of fault), refl, is ∙ ap Some errs)
   JudgesIdToken-unread read.Memory told unread same is errs = rw same (read_of_some (id_token response) told is)
 
-module _ {D A T E RE C : Type 0} (meaning : D → A) (error_meaning : T → E) (reading : Data → Reading A) (error_reading : Data → Reading E) (step : C → HttpRequest → Result HttpResponse RE → C → Type 0) (access_token token_type : D → List ℕ) (id_token : D → Option (List ℕ)) (client : Settings) (login : OpenIdKept) (expected : Expectation) (ToldByClock : Timestamp → Type 0) (told : Result (List ℕ) RedirectErrorView) (before after : C) where
+module _ {D A T E RE C : Type 0} (meaning : D → A) (error_meaning : T → E) (reading : Data → Reading A) (error_reading : Data → Reading E) (step : C → HttpRequest → Result HttpResponse RE → C → Type 0) (access_token token_type : D → List ℕ) (id_token : D → Option (List ℕ)) (client : Settings) (login : OpenIdKept) (provider : Provider) (ToldByClock : Timestamp → Type 0) (called : Parts) (pairs : List Pair) (before after : C) where
   -- a login that is given back is the login, and nothing was sent
   pub openid_login-given_back : (result : Result (OpenIdLoginEnd D) (OpenIdLoginError RE T))
-      → EndsOpenIdLogin meaning error_meaning reading error_reading step access_token token_type id_token client login expected ToldByClock told before result after
-      → (error : RedirectError) (kept : OpenIdKept) → result ≡ Err (Redirect error kept) → (kept ≡ login) × (after ≡ before)
-  openid_login-given_back result (inl (code, is, response, exchanged, now, at, inl (bearer, judged))) error kept is_redirect =
-      absurd (subst (JudgesIdToken access_token id_token expected now.nanosecond response) is_redirect judged)
-  openid_login-given_back result (inl (code, is, response, exchanged, now, at, inr (other, same))) error kept is_redirect = cc
-  openid_login-given_back result (inr (inl (code, is, fault, same, exchanged))) error kept is_redirect = cc
-  openid_login-given_back result (inr (inr (why, same, shown, stayed))) error kept is_redirect = (cc, stayed)
+      → EndsOpenIdLogin meaning error_meaning reading error_reading step access_token token_type id_token client login provider ToldByClock called pairs before result after
+      → (refused : RefusedOpenIdLogin) → result ≡ Err (Refused refused) → (refused.login ≡ login) × (after ≡ before)
+  openid_login-given_back result (inl (code, found, inl (response, exchanged, now, at, inl (bearer, judged)))) refused is =
+      absurd (subst (JudgesIdToken access_token id_token (expected_of provider client login) now.nanosecond response) is judged)
+  openid_login-given_back result (inl (code, found, inl (response, exchanged, now, at, inr (other, same)))) refused is = cc
+  openid_login-given_back result (inl (code, found, inr (fault, same, exchanged))) refused is = cc
+  openid_login-given_back result (inr (kept, same, back, shown, stayed)) refused is = (cc, stayed)

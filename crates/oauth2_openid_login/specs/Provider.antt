@@ -1,18 +1,20 @@
 -- What a client knows of a provider, and what it therefore expects of a login.
-use Rattle.std.specs.Prelude.{ℕ, ◌*◌, List, [], Bool, false, if◌then◌else◌, Option, Some, None, option_map}
+use Rattle.std.specs.Prelude.{ℕ, ◌*◌, List, [], Bool, false, Option, Some, None, bytes_eq, option_map}
 use Rattle.oauth2.specs.Settings.{Settings}
-use Rattle.oauth2_redirect.specs.Redirect.{IssuerExpectation, required, compared}
+use Rattle.oauth2_redirect.specs.Redirect.{IssuerExpectation, required, compared, unknown}
 use Rattle.oauth2_openid.specs.declared.issuer_rule.IssuerRule.{IssuerRule}
 use Rattle.oauth2_openid.specs.Claims.{Expectation, NamedIssuers, is}
 use Rattle.oauth2_openid.specs.Issuers.{named_issuers}
+use Rattle.oauth2_openid_login.specs.declared.redirect_issuer.RedirectIssuer.{RedirectIssuer}
+use Rattle.oauth2_openid_login.specs.declared.redirect_issuer.RedirectIssuer.TheVariants.{InEachRedirect, OwnRedirectUri}
 use Rattle.oauth2_openid_login.specs.Login.{OpenIdKept}
 
--- what a client knows of a provider: the issuer of its redirects and whether they must name it, the
+-- what a client knows of a provider: the issuer of its redirects and how it is known there, the
 -- issuers of its ID tokens, the audiences and authorized parties (`azp`) that it accepts besides
 -- the client, the algorithm, and the leeway in nanoseconds
 pub record Provider : Type 0 where
   pub issuer : List ℕ
-  pub tells_issuer_in_redirect : Bool
+  pub redirects : RedirectIssuer
   pub issuer_rule : NamedIssuers
   pub other_audiences : List (List ℕ)
   pub authorized_parties : List (List ℕ)
@@ -21,11 +23,11 @@ pub record Provider : Type 0 where
 
 -- the provider with this issuer, for redirects and ID tokens, and this leeway in nanoseconds;
 -- nothing else is set
-abbrev pub new_provider : List ℕ → ℕ → Provider
-new_provider issuer leeway =
+abbrev pub new_provider : List ℕ → RedirectIssuer → ℕ → Provider
+new_provider issuer redirects leeway =
     record {
       issuer = issuer;
-      tells_issuer_in_redirect = false;
+      redirects = redirects;
       issuer_rule = is issuer;
       other_audiences = [];
       authorized_parties = [];
@@ -38,11 +40,22 @@ abbrev pub token_issuers : List ℕ → Option IssuerRule → NamedIssuers
 token_issuers issuer None = is issuer
 token_issuers issuer (Some rule) = named_issuers rule
 
--- the expected issuer of a redirect (RFC 9207, 2.4): required if the provider announces `iss` in
--- its redirects, and else compared if a redirect has `iss`
+-- the expected issuer of a redirect (RFC 9207, 2.4): required if each redirect names it, and else
+-- compared if a redirect has `iss`
+abbrev pub issuer_in_redirects : RedirectIssuer → List ℕ → IssuerExpectation
+issuer_in_redirects InEachRedirect issuer = required issuer
+issuer_in_redirects OwnRedirectUri issuer = compared issuer
+
+-- the expected issuer of the redirects of a provider's logins
 abbrev pub redirect_issuer : Provider → IssuerExpectation
-redirect_issuer provider =
-    if provider.tells_issuer_in_redirect then required provider.issuer else compared provider.issuer
+redirect_issuer provider = issuer_in_redirects provider.redirects provider.issuer
+
+-- whether a login that expects this of the issuer of its redirect was started at the provider with
+-- this issuer
+abbrev pub names_issuer : IssuerExpectation → List ℕ → Bool
+names_issuer (required expected) issuer = bytes_eq issuer expected
+names_issuer (compared expected) issuer = bytes_eq issuer expected
+names_issuer unknown issuer = false
 
 -- what is expected of an ID token for this client identifier, this nonce and this maximum age in
 -- seconds; the expectation itself has the maximum age in nanoseconds

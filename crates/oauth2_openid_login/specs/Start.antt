@@ -3,19 +3,23 @@ use Rattle.std.specs.Prelude.{◌≡◌, ℕ, List, [], ◌∷◌, codes, Option
 use Rattle.std.specs.Fmt.{decimal}
 use Rattle.oauth2_urls.specs.Addressed.{Addressed}
 use Rattle.oauth2_form.specs.Pairs.{Pair}
-use Rattle.url.specs.declared.error.ParseError.{ParseError}
-use Rattle.url.specs.declared.error.ParseError.TheVariants.{Overflow}
 use Rattle.oauth2_requests.specs.Authorization.{Authorization, IsTooLong, asked_url}
 use Rattle.oauth2.specs.CodeFlow.{flow_authorization}
 use Rattle.oauth2.specs.Settings.{Settings}
+use Rattle.oauth2_redirect.specs.declared.login_url_error.LoginUrlFault.{LoginUrlFault}
+use Rattle.oauth2_redirect.specs.declared.login_url_error.LoginUrlFault.TheVariants as faults
+use Rattle.oauth2_redirect.specs.Redirect.{IssuerExpectation}
 use Rattle.oauth2_openid_login.specs.declared.login_url_error.OpenIdLoginUrlFault.{OpenIdLoginUrlFault}
 use Rattle.oauth2_openid_login.specs.declared.login_url_error.OpenIdLoginUrlFault.TheVariants.{NoRedirectUri, TooLong, Memory}
 
--- a login being started: the request that its URL is made of, the verifier of its challenge, its
--- nonce, and the maximum age in seconds, if one was requested
+-- a login being started: the request that its URL is made of, the verifier of its challenge, the
+-- issuer that its redirect is expected to come from, the URL of its token endpoint, its nonce, and
+-- the maximum age in seconds, if one was requested
 pub record OpenIdStarting : Type 0 where
   pub request : Authorization
   pub verifier : List ℕ
+  pub issuer : IssuerExpectation
+  pub token_url : List ℕ
   pub nonce : List ℕ
   pub max_age : Option ℕ
 
@@ -38,10 +42,11 @@ IsUrlFault request NoRedirectUri = request.redirect_url ≡ None
 IsUrlFault request TooLong = IsSome request.redirect_url × IsTooLong (asked_url request)
 IsUrlFault request Memory = IsSome request.redirect_url × ¬ (IsTooLong (asked_url request))
 
--- the fault for an error of making the URL
-abbrev pub url_fault : ParseError → OpenIdLoginUrlFault
-url_fault Overflow = TooLong
-url_fault error = Memory
+-- the fault of a login with OpenID Connect, for that of a login by a code
+abbrev pub url_fault : LoginUrlFault → OpenIdLoginUrlFault
+url_fault faults.NoRedirectUri = NoRedirectUri
+url_fault faults.TooLong = TooLong
+url_fault faults.Memory = Memory
 
 -- the text that `Display` writes of a fault
 abbrev pub url_fault_text : OpenIdLoginUrlFault → Option (List ℕ)

@@ -10,6 +10,7 @@ ghost use Rattle.std.specs.Prelude.{
   None,
   IfOk,
   IfErr,
+  IsErrAnd,
   IsTrue,
   codes,
 };
@@ -20,13 +21,15 @@ ghost use Rattle.oauth2_urls.specs.Addressed.{Addressed};
 ghost use Rattle.jiff.specs.Types.{Timestamp};
 ghost use Rattle.oauth2_form.specs.Pairs.{form};
 ghost use Rattle.oauth2_form.specs.Query.{query_form};
+ghost use Rattle.url.specs.Parts.{serialize};
+ghost use Rattle.oauth2_redirect.specs.Bound.{IsLoginOf, ShowsRefusal, mismatch};
 ghost use Rattle.oauth2_redirect.specs.Query.{sole_text};
-ghost use Rattle.oauth2_redirect.specs.Redirect.{MayWantMemory, ShowsRedirectError, answer};
+ghost use Rattle.oauth2_redirect.specs.Redirect.{MayWantMemory, answer};
 ghost use Rattle.oauth2_openid.specs.Seen.{token_of};
 ghost use Rattle.oauth2_openid.specs.TokenRules.{Holds};
 ghost use Rattle.oauth2_openid.specs.Claims.{Expectation};
 ghost use Rattle.oauth2_openid_login.specs.End.{
-  EndsOpenIdLogin,
+  EndsWithCode,
   FinishesOpenIdLogin,
   IsBearer,
   Judges,
@@ -34,21 +37,36 @@ ghost use Rattle.oauth2_openid_login.specs.End.{
   id_token_reading,
 };
 ghost use Rattle.oauth2_openid_login.specs.Login.{openid_kept};
-ghost use Rattle.oauth2_openid_login.specs.Provider.{login_expectation, redirect_issuer};
+ghost use Rattle.oauth2_openid_login.specs.Provider.{
+  expected_of,
+  login_expectation,
+  redirect_issuer,
+};
+ghost use Rattle.oauth2_openid_login.specs.Refusal.{
+  AuthorizesOpenIdLogin,
+  ShowsOpenIdRefusal,
+  provider_refusal,
+};
 ghost use Rattle.oauth2_openid_login.specs.Start.{openid_authorization};
-ghost use Rattle.oauth2_openid_login.specs.private.Told.{told_as};
+ghost use Rattle.oauth2_openid_login.specs.private.Told.{
+  memory_refusal,
+  other_state_refusal,
+  told_as,
+};
 
 use crate::login_end::OpenIdLoginEnd;
 use crate::login_error::OpenIdLoginError;
+use crate::login_refusal::{OpenIdLoginRefusal, RefusedOpenIdLogin};
 use crate::login_request::OpenIdLoginRequest;
 use crate::provider::OpenIdProvider;
 use crate::token_response::HasIdToken;
 use jiff::Timestamp;
 use oauth2::{Client, EndpointSet, EndpointState};
 use oauth2_codes::ErrorResponse;
+use oauth2_metadata::is_secure;
 use oauth2_openid::{Expected, IdToken, IdTokenReadError, Nonce};
-use oauth2_redirect::{Login, RedirectError, read_redirect_query};
-use oauth2_types::{AuthorizationCode, ClientId, CsrfToken, Scope, TryClone};
+use oauth2_redirect::{AuthorizedLogin, Login, LoginRefusal, RedirectError, RefusedLogin};
+use oauth2_types::{ClientId, CsrfToken, Scope, TryClone};
 use oauth2_wire::SyncHttpClient;
 use rand_core::Rng;
 use std::alloc::{AllocError, Global};
@@ -85,19 +103,19 @@ impl OpenIdLogin {
         }
     }
 
-    /// Begins a login at this client's authorization endpoint: a state of 16 random bytes, a
-    /// verifier of 32 whose challenge is made by `S256`, and a nonce of 16, with the scope
-    /// `openid`.
-    pub fn start<'a, TE, TR, TIR, RT, TRE, D, I, R, T, G: Rng>(
+    /// Begins a login at this provider, by this client: a state of 16 random bytes, a verifier of 32
+    /// whose challenge is made by `S256`, and a nonce of 16, with the scope `openid`. The login keeps
+    /// the provider's issuer, the client's identifier and its token endpoint.
+    pub fn start<'a, TE, TR, TIR, RT, TRE, D, I, R, G: Rng>(
         alloc: Global,
-        client: &'a Client<TE, TR, TIR, RT, TRE, EndpointSet, D, I, R, T>,
+        client: &'a Client<TE, TR, TIR, RT, TRE, EndpointSet, D, I, R, EndpointSet>,
+        provider: &OpenIdProvider<'_>,
         rng: &mut G,
     ) -> Result<OpenIdLoginRequest<'a>, AllocError>
     where
         D: EndpointState,
         I: EndpointState,
         R: EndpointState,
-        T: EndpointState,
         ensures random { IfOk result (λ login. (second : Stream) × (third : Stream)
             × IsRandomText 16 (G.stream rng.old) second login.request.state
             × IsRandomText 32 second third login.verifier
@@ -106,9 +124,13 @@ impl OpenIdLogin {
             (λ login. (endpoint : Addressed) × (client.now.auth_url ≡ Some endpoint)
             × (login.request ≡ openid_authorization client.now endpoint login.request.state
             login.verifier login.nonce)) }
+        ensures bound { IfOk result (λ login. (login.issuer ≡ redirect_issuer provider.now)
+            × (endpoint : Addressed) × (client.now.token_url ≡ Some endpoint)
+            × (login.token_url ≡ serialize endpoint.url)) }
         ensures max_age { IfOk result (λ login. login.max_age ≡ None) }
     {
-        let login = Login::start(alloc, client, rng)?;
+        let issuer = provider.login_issuer(alloc)?;
+        let login = Login::start(alloc, client, issuer, rng)?;
         let nonce = Nonce::new_random(alloc, rng)?;
         let sent = nonce.try_clone(alloc)?.into_secret();
         let scope = Scope::new(String::from_str(alloc, "openid")?);
@@ -125,11 +147,13 @@ impl OpenIdLogin {
         self.login.state()
     }
 
-    /// Requests the tokens for the redirect's code, and checks the claims of the ID token: each
-    /// rule must hold at the time that `clock` returns, which is called once, after the token
-    /// response. If the redirect has no code for this login, the HTTP client is not called, and the
-    /// login is in the error.
-    pub fn finish<TE, TR, TIR, RT, TRE, A, D, I, R, C: SyncHttpClient, K>(
+    /// Requests the tokens for the redirect's code, and checks the claims of the ID token, but not
+    /// its signature: `finish` of a `VerifiedProvider` of `oauth2_verified_login` checks that too.
+    /// Each rule must hold at the time that `clock` returns, which is called once, after the token
+    /// response. The token endpoint must be `https`, or `http` with a loopback host (section
+    /// 3.1.3.7, 6). If that, the provider, the client or the redirect is not this login's, the HTTP
+    /// client is not called, and the login is in the error.
+    pub fn finish_without_signature<TE, TR, TIR, RT, TRE, A, D, I, R, C: SyncHttpClient, K>(
         self,
         alloc: Global,
         client: &Client<TE, TR, TIR, RT, TRE, A, D, I, R, EndpointSet>,
@@ -150,19 +174,31 @@ impl OpenIdLogin {
         requires clock { K.IsAlwaysCallable clock }
         ensures { FinishesOpenIdLogin TR.meaning TE.meaning TR.reading TE.reading C.is_ready C.step
             TR.access_token TR.token_type_text TR.id_token client.now self provider.now
-            (K.post clock) (query_form redirect.now) http_client.old result http_client.new }
+            (K.post clock) redirect.now (query_form redirect.now) http_client.old result
+            http_client.new }
     {
         let query = query_of(redirect);
-        self.finish_query(alloc, client, http_client, query, provider, clock)
+        self.finish_query_without_signature(
+            alloc,
+            client,
+            http_client,
+            redirect,
+            query,
+            provider,
+            clock,
+        )
     }
 
-    /// As `finish`, for a handler that has no `Url`. `query` is the redirect's query without the
+    /// As `finish_without_signature`, for a handler that has no `Url` of the redirect. `called` is
+    /// the URL to which the redirect came, with its query: behind a proxy, the redirect URI that the
+    /// handler serves there. `query` holds the parameters of the redirect: that query without the
     /// `?`, or the form in the body of the request (`response_mode=form_post`).
-    pub fn finish_query<TE, TR, TIR, RT, TRE, A, D, I, R, C: SyncHttpClient, K>(
+    pub fn finish_query_without_signature<TE, TR, TIR, RT, TRE, A, D, I, R, C: SyncHttpClient, K>(
         self,
         alloc: Global,
         client: &Client<TE, TR, TIR, RT, TRE, A, D, I, R, EndpointSet>,
         http_client: &mut C,
+        called: &Url,
         query: &str,
         provider: &OpenIdProvider<'_>,
         clock: K,
@@ -179,92 +215,159 @@ impl OpenIdLogin {
         requires clock { K.IsAlwaysCallable clock }
         ensures { FinishesOpenIdLogin TR.meaning TE.meaning TR.reading TE.reading C.is_ready C.step
             TR.access_token TR.token_type_text TR.id_token client.now self provider.now
-            (K.post clock) (form query.now) http_client.old result http_client.new }
+            (K.post clock) called.now (form query.now) http_client.old result
+            http_client.new }
     {
-        match self.code_of(alloc, client.client_id(), query, provider) {
-            Ok((code, expected)) => {
-                self.finish_with_code(alloc, client, http_client, code, &expected, clock)
+        match self.authorize(alloc, client, called, query, provider) {
+            Ok((login, expected)) => {
+                end_with_code(alloc, login, client, http_client, &expected, clock)
             }
-            Err(error) => Err(OpenIdLoginError::Redirect { error, login: self }),
+            Err(refused) => Err(OpenIdLoginError::Refused(refused)),
         }
     }
 
-    // The redirect's code, and what the ID token is checked against.
-    fn code_of(
-        &self,
-        alloc: Global,
-        client_id: &ClientId,
-        query: &str,
-        provider: &OpenIdProvider<'_>,
-    ) -> Result<(AuthorizationCode, Expected), RedirectError>
-        ensures code { IfOk result (λ (code, _).
-            answer self.now.login.state (redirect_issuer provider.now) (form query.now)
-            ≡ Ok code) }
-        ensures expected { IfOk result (λ (_, expected). expected
-            ≡ login_expectation provider.now client_id.now self.now.nonce self.now.max_age) }
-        ensures refusal { IfErr result (λ error. ShowsRedirectError error
-            (answer self.now.login.state (redirect_issuer provider.now) (form query.now))) }
-        ensures memory { result ≡ Err RedirectError.Memory → MayWantMemory self.now.login.state
-            (redirect_issuer provider.now) (form query.now) }
-        ensures no_state { sole_text (codes "state") (form query.now) ≡ None
-            → result ≡ Err RedirectError.OtherState }
-    {
-        let issuer = provider.redirect_issuer();
-        let code = read_redirect_query(alloc, query, self.login.state(), issuer)?;
-        // Made before the code is sent, so that no code is spent if memory runs out here.
-        let expected = self.expected_id_token(alloc, client_id, provider)?;
-        Ok((code, expected))
-    }
-
-    // Sends the token request for this code, and checks the response.
-    fn finish_with_code<TE, TR, TIR, RT, TRE, A, D, I, R, C: SyncHttpClient, K>(
+    // The login with the redirect's code, and what the ID token is checked against.
+    fn authorize<TE, TR, TIR, RT, TRE, A, D, I, R>(
         self,
         alloc: Global,
         client: &Client<TE, TR, TIR, RT, TRE, A, D, I, R, EndpointSet>,
-        http_client: &mut C,
-        code: AuthorizationCode,
-        expected: &Expected,
-        clock: K,
-    ) -> Result<OpenIdLoginEnd<TR>, OpenIdLoginError<C::Error, TE>>
+        called: &Url,
+        query: &str,
+        provider: &OpenIdProvider<'_>,
+    ) -> Result<(AuthorizedLogin, Expected), RefusedOpenIdLogin>
     where
-        TE: ErrorResponse,
-        TR: HasIdToken,
         A: EndpointState,
         D: EndpointState,
         I: EndpointState,
         R: EndpointState,
-        K: FnOnce() -> Timestamp + Drop,
-        requires client { C.is_ready http_client.old }
-        requires clock { K.IsAlwaysCallable clock }
-        ensures end { EndsOpenIdLogin TR.meaning TE.meaning TR.reading TE.reading C.step
-            TR.access_token TR.token_type_text TR.id_token client.now self expected.now
-            (K.post clock) (Ok code) http_client.old result http_client.new }
-        ensures rules { IfOk result (λ end. (now : Timestamp) × K.post clock now
-            × Holds expected.now (TR.access_token end.token_response) now.nanosecond
-            (token_of end.id_token)) }
-        ensures ready { C.is_ready http_client.new }
+        ensures authorized { IfOk result (λ (it, _). (it.login ≡ self.login)
+            × AuthorizesOpenIdLogin client.now self provider.now called.now (form query.now)
+            it.code) }
+        ensures own { IfOk result (λ (it, _). IsLoginOf client.now it.login) }
+        ensures expected { IfOk result (λ (_, expected). expected
+            ≡ expected_of provider.now client.now self) }
+        ensures refusal { IfErr result (λ refused. (refused.login ≡ self)
+            × ShowsOpenIdRefusal client.now self provider.now called.now (form query.now)
+            refused.error) }
+        ensures memory { IfErr result (λ refused. refused.error ≡ memory_refusal
+            → MayWantMemory self.login.state self.login.issuer (form query.now)) }
+        ensures no_state { sole_text (codes "state") (form query.now) ≡ None
+            → provider_refusal client.now self provider.now ≡ None
+            → mismatch client.now self.login called.now ≡ None
+            → IsErrAnd result (λ refused. refused.error ≡ other_state_refusal) }
     {
-        match self
-            .login
-            .finish_with_code(alloc, client, http_client, code)
-        {
-            Ok(response) => check_response(alloc, response, expected, clock()),
-            Err(error) => Err(OpenIdLoginError::Token(error)),
+        match self.provider_refusal(client, provider) {
+            Some(error) => Err(RefusedOpenIdLogin { error, login: self }),
+            None => self.authorize_at_provider(alloc, client, called, query, provider),
         }
     }
 
-    // What the ID token is checked against.
-    fn expected_id_token(
+    // Why nothing is sent whatever the redirect is.
+    fn provider_refusal<TE, TR, TIR, RT, TRE, A, D, I, R>(
         &self,
-        alloc: Global,
-        client_id: &ClientId,
+        client: &Client<TE, TR, TIR, RT, TRE, A, D, I, R, EndpointSet>,
         provider: &OpenIdProvider<'_>,
-    ) -> Result<Expected, AllocError>
-        ensures { IfOk result (λ expected. expected
-            ≡ login_expectation provider.now client_id.now self.now.nonce self.now.max_age) }
+    ) -> Option<OpenIdLoginRefusal>
+    where
+        A: EndpointState,
+        D: EndpointState,
+        I: EndpointState,
+        R: EndpointState,
+        ensures { result ≡ provider_refusal client.now self.now provider.now }
     {
-        let nonce = self.nonce.try_clone(alloc)?;
-        provider.expected_id_token(alloc, client_id, nonce, self.max_age)
+        if !is_secure(client.token_uri().url()) {
+            Some(OpenIdLoginRefusal::InsecureTokenEndpoint)
+        } else if !provider.is_of(&self.login) {
+            Some(OpenIdLoginRefusal::OtherProvider)
+        } else {
+            None
+        }
+    }
+
+    // As `authorize`, for a login of this provider.
+    fn authorize_at_provider<TE, TR, TIR, RT, TRE, A, D, I, R>(
+        self,
+        alloc: Global,
+        client: &Client<TE, TR, TIR, RT, TRE, A, D, I, R, EndpointSet>,
+        called: &Url,
+        query: &str,
+        provider: &OpenIdProvider<'_>,
+    ) -> Result<(AuthorizedLogin, Expected), RefusedOpenIdLogin>
+    where
+        A: EndpointState,
+        D: EndpointState,
+        I: EndpointState,
+        R: EndpointState,
+        ensures authorized { IfOk result (λ (it, _). (it.login ≡ self.login)
+            × (mismatch client.now self.login called.now ≡ None)
+            × (answer self.login.state self.login.issuer (form query.now) ≡ Ok it.code)) }
+        ensures own { IfOk result (λ (it, _). IsLoginOf client.now it.login) }
+        ensures expected { IfOk result (λ (_, expected). expected
+            ≡ expected_of provider.now client.now self) }
+        ensures refusal { IfErr result (λ refused. (refused.login ≡ self)
+            × (refusal : LoginRefusal) × (refused.error ≡ OpenIdLoginRefusal.Login refusal)
+            × ShowsRefusal refusal (mismatch client.now self.login called.now)
+            (answer self.login.state self.login.issuer (form query.now))) }
+        ensures memory { IfErr result (λ refused. refused.error ≡ memory_refusal
+            → MayWantMemory self.login.state self.login.issuer (form query.now)) }
+        ensures no_state { sole_text (codes "state") (form query.now) ≡ None
+            → mismatch client.now self.login called.now ≡ None
+            → IsErrAnd result (λ refused. refused.error ≡ other_state_refusal) }
+    {
+        let OpenIdLogin {
+            login,
+            nonce,
+            max_age,
+        } = self;
+        match login.check_redirect(alloc, client, called, query) {
+            Ok(it) => with_expectation(alloc, it, nonce, max_age, client.client_id(), provider),
+            Err(refused) => Err(refused_login(refused, nonce, max_age)),
+        }
+    }
+}
+
+// The login with its code, and what the ID token is checked against: made before the code is sent, so
+// that no code is spent if memory runs out here.
+fn with_expectation(
+    alloc: Global,
+    login: AuthorizedLogin,
+    nonce: Nonce,
+    max_age: Option<u64>,
+    client_id: &ClientId,
+    provider: &OpenIdProvider<'_>,
+) -> Result<(AuthorizedLogin, Expected), RefusedOpenIdLogin>
+    ensures ok { IfOk result (λ (it, expected). (it ≡ login)
+        × (expected ≡ login_expectation provider.now client_id.now nonce max_age)) }
+    ensures err { IfErr result (λ refused.
+        (refused.login ≡ openid_kept login.login nonce max_age)
+        × (refused.error ≡ memory_refusal)) }
+{
+    match provider.expected_id_token(alloc, client_id, &nonce, max_age) {
+        Ok(expected) => Ok((login, expected)),
+        Err(_) => Err(without_memory(login, nonce, max_age)),
+    }
+}
+
+// A login that is given back, for the login by a code that was refused.
+fn refused_login(refused: RefusedLogin, nonce: Nonce, max_age: Option<u64>) -> RefusedOpenIdLogin
+    ensures login { result.login ≡ openid_kept refused.login nonce max_age }
+    ensures error { result.error ≡ OpenIdLoginRefusal.Login refused.error }
+{
+    let RefusedLogin { error, login } = refused;
+    RefusedOpenIdLogin {
+        error: OpenIdLoginRefusal::Login(error),
+        login: OpenIdLogin::new(login, nonce, max_age),
+    }
+}
+
+// A login that is given back since memory ran out before its code was sent.
+fn without_memory(login: AuthorizedLogin, nonce: Nonce, max_age: Option<u64>) -> RefusedOpenIdLogin
+    ensures login { result.login ≡ openid_kept login.login nonce max_age }
+    ensures error { result.error ≡ memory_refusal }
+{
+    RefusedOpenIdLogin {
+        error: OpenIdLoginRefusal::Login(LoginRefusal::Redirect(RedirectError::Memory)),
+        login: OpenIdLogin::new(login.into_login(), nonce, max_age),
     }
 }
 
@@ -273,6 +376,40 @@ fn query_of(redirect: &Url) -> &str
     ensures { form result.now ≡ query_form redirect.now }
 {
     redirect.query().unwrap_or("")
+}
+
+// Sends the token request for the code of this login, and checks the response.
+fn end_with_code<TE, TR, TIR, RT, TRE, A, D, I, R, C: SyncHttpClient, K>(
+    alloc: Global,
+    login: AuthorizedLogin,
+    client: &Client<TE, TR, TIR, RT, TRE, A, D, I, R, EndpointSet>,
+    http_client: &mut C,
+    expected: &Expected,
+    clock: K,
+) -> Result<OpenIdLoginEnd<TR>, OpenIdLoginError<C::Error, TE>>
+where
+    TE: ErrorResponse,
+    TR: HasIdToken,
+    A: EndpointState,
+    D: EndpointState,
+    I: EndpointState,
+    R: EndpointState,
+    K: FnOnce() -> Timestamp + Drop,
+    requires own { IsLoginOf client.now login.login }
+    requires client { C.is_ready http_client.old }
+    requires clock { K.IsAlwaysCallable clock }
+    ensures end { EndsWithCode TR.meaning TE.meaning TR.reading TE.reading C.step TR.access_token
+        TR.token_type_text TR.id_token client.now login.login login.code expected.now
+        (K.post clock) http_client.old result http_client.new }
+    ensures rules { IfOk result (λ end. (now : Timestamp) × K.post clock now
+        × Holds expected.now (TR.access_token end.token_response) now.nanosecond
+        (token_of end.id_token)) }
+    ensures ready { C.is_ready http_client.new }
+{
+    match login.request(alloc, client, http_client) {
+        Ok(response) => check_response(alloc, response, expected, clock()),
+        Err(error) => Err(OpenIdLoginError::Token(error)),
+    }
 }
 
 // Checks the token type and the ID token of a response.
@@ -344,6 +481,7 @@ fn read_error<RE, T>(error: IdTokenReadError) -> OpenIdLoginError<RE, T>
     ensures { result ≡ told_as error }
 {
     match error {
+        IdTokenReadError::TooLong => OpenIdLoginError::Read(IdTokenReadError::TooLong),
         IdTokenReadError::NotThreeParts => OpenIdLoginError::Read(IdTokenReadError::NotThreeParts),
         IdTokenReadError::NotBase64(part) => {
             OpenIdLoginError::Read(IdTokenReadError::NotBase64(part))

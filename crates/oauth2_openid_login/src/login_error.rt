@@ -1,8 +1,7 @@
 //! Why a login with OpenID Connect returned no user.
 
-use crate::login::OpenIdLogin;
+use crate::login_refusal::RefusedOpenIdLogin;
 use oauth2_openid::{ClaimsError, IdTokenReadError};
-use oauth2_redirect::RedirectError;
 use oauth2_types::display::write_display;
 use oauth2_wire::RequestTokenError;
 use std::fmt;
@@ -11,13 +10,10 @@ use std::fmt;
 /// body of a response that could not be read is in `Token`, as in each `RequestTokenError`.
 #[derive(Drop)]
 pub enum OpenIdLoginError<RE, T> {
-    /// The redirect has no code or is not this login's, or memory ran out before the code was sent.
-    /// The HTTP client was not called.
-    Redirect {
-        error: RedirectError,
-        /// The login as it was, to be finished by another redirect.
-        login: OpenIdLogin,
-    },
+    /// The token endpoint is not secure, the provider, the client, the called URL or the redirect is
+    /// not this login's, the redirect has no code, or memory ran out before the code was sent. The
+    /// HTTP client was not called.
+    Refused(RefusedOpenIdLogin),
     /// The token request failed.
     Token(RequestTokenError<RE, T>),
     /// The token response has another token type than `Bearer` (section 3.1.3.3).
@@ -41,7 +37,7 @@ impl<RE, T: fmt::Display> fmt::Display for OpenIdLoginError<RE, T> {
 
     fn fmt<W: fmt::Write>(&self, f: &mut fmt::Formatter<W>) -> fmt::Result {
         match self {
-            OpenIdLoginError::Redirect { error, login: _ } => write_display(f, error),
+            OpenIdLoginError::Refused(refused) => write_display(f, refused),
             OpenIdLoginError::Token(error) => write_display(f, error),
             OpenIdLoginError::OtherTokenType => f.write_str("token type is not Bearer"),
             OpenIdLoginError::NoIdToken => f.write_str("token response has no ID token"),
@@ -58,6 +54,19 @@ where
     T: fmt::Debug + fmt::Display + Drop,
 {}
 
+impl<RE, T> From<RefusedOpenIdLogin> for OpenIdLoginError<RE, T> {
+    ghost use Rattle.std.specs.Prelude.{◌≡◌};
+    ghost use Rattle.oauth2_openid_login.specs.declared.login_error.OpenIdLoginError.TheVariants.{
+      Refused,
+    };
+
+    ghost from_gives = { λ refused error. error ≡ Refused refused };
+
+    fn from(refused: RefusedOpenIdLogin) -> OpenIdLoginError<RE, T> {
+        OpenIdLoginError::Refused(refused)
+    }
+}
+
 impl<RE, T> fmt::Debug for OpenIdLoginError<RE, T> {
     ghost use Rattle.std.specs.Prelude.{Some};
     ghost use Rattle.std.specs.Fmt.{DisplaysOnOk, WritesStyledOnOk};
@@ -73,7 +82,7 @@ impl<RE, T> fmt::Debug for OpenIdLoginError<RE, T> {
             (openid_login_error_debug self.now) f.new }
     {
         f.write_str(match self {
-            OpenIdLoginError::Redirect { error: _, login: _ } => "Redirect([redacted])",
+            OpenIdLoginError::Refused(_) => "Refused([redacted])",
             OpenIdLoginError::Token(_) => "Token([redacted])",
             OpenIdLoginError::OtherTokenType => "OtherTokenType",
             OpenIdLoginError::NoIdToken => "NoIdToken",

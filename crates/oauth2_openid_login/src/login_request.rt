@@ -21,6 +21,7 @@ ghost use Rattle.std.specs.Prelude.{
   string_bytes,
 };
 ghost use Rattle.std.specs.Duration.{as_nanos};
+ghost use Rattle.oauth2_urls.specs.Addressed.{Addressed};
 ghost use Rattle.oauth2_form.specs.Query.{ExtendsQuery, query_form};
 ghost use Rattle.oauth2_wire.specs.ByName.{avoid_own_names};
 ghost use Rattle.oauth2_wire.specs.Texts.{param_bytes};
@@ -33,7 +34,7 @@ ghost use Rattle.oauth2_openid_login.specs.Start.{IsUrlFault, max_age_pair, url_
 use crate::login::OpenIdLogin;
 use crate::login_url_error::{OpenIdLoginUrlError, OpenIdLoginUrlFault};
 use oauth2_openid::Nonce;
-use oauth2_redirect::LoginRequest;
+use oauth2_redirect::{LoginRequest, LoginUrlFault};
 use oauth2_types::Scope;
 use oauth2_urls::RedirectUrl;
 use oauth2_wire::ParamText;
@@ -41,7 +42,7 @@ use std::alloc::{AllocError, Global};
 use std::fmt;
 use std::marker::Model;
 use std::time::Duration;
-use url::{ParseError, Url};
+use url::Url;
 
 /// A login that is being started. Contracts see the request for its URL, and what is kept.
 #[derive(Drop)]
@@ -59,6 +60,8 @@ impl<'a> Model for OpenIdLoginRequest<'a> {
     ghost view = { λ l. record {
       request = l.login.request;
       verifier = l.login.verifier;
+      issuer = l.login.issuer;
+      token_url = l.login.token_url;
       nonce = l.nonce;
       max_age = l.max_age;
     } };
@@ -70,6 +73,8 @@ impl<'a> OpenIdLoginRequest<'a> {
         ensures { result ≡ record {
           request = login.entry.request;
           verifier = login.entry.verifier;
+          issuer = login.entry.issuer;
+          token_url = login.entry.token_url;
           nonce = nonce;
           max_age = None;
         } }
@@ -177,8 +182,10 @@ impl<'a> OpenIdLoginRequest<'a> {
         ensures url { IfOk result (λ (url, _).
             ExtendsQuery self.entry.request.auth_url.url url (query_pairs self.entry.request)) }
         ensures kept { IfOk result (λ (_, login). let request = self.entry.request in
-            login ≡ openid_kept (login_view_of request.state self.entry.verifier request.redirect_url)
-            self.entry.nonce self.entry.max_age) }
+            (uri : Addressed) × (request.redirect_url ≡ Some uri)
+            × (login ≡ openid_kept (login_view_of request.state self.entry.verifier uri
+            self.entry.issuer request.client_id self.entry.token_url)
+            self.entry.nonce self.entry.max_age)) }
 
         // The parameters that a server finds in the URL.
         ensures shows { IsTrue (avoid_own_names (query_form self.entry.request.auth_url.url))
@@ -188,12 +195,6 @@ impl<'a> OpenIdLoginRequest<'a> {
         ensures refusal { IfErr result (λ refused. (refused.request ≡ self.entry)
             × IsUrlFault self.entry.request refused.error) }
     {
-        if self.login.redirect_uri().is_none() {
-            return Err(OpenIdLoginUrlError {
-                error: OpenIdLoginUrlFault::NoRedirectUri,
-                request: self,
-            });
-        }
         match self.login.url(alloc) {
             Ok((url, login)) => Ok((url, OpenIdLogin::new(login, self.nonce, self.max_age))),
             Err(refused) => Err(OpenIdLoginUrlError {
@@ -208,13 +209,14 @@ impl<'a> OpenIdLoginRequest<'a> {
     }
 }
 
-// The fault for an error of making the URL.
-fn fault_of(error: ParseError) -> OpenIdLoginUrlFault
-    ensures { result ≡ url_fault error }
+// The fault of this login, for that of the login by a code.
+fn fault_of(fault: LoginUrlFault) -> OpenIdLoginUrlFault
+    ensures { result ≡ url_fault fault }
 {
-    match error {
-        ParseError::Overflow => OpenIdLoginUrlFault::TooLong,
-        _ => OpenIdLoginUrlFault::Memory,
+    match fault {
+        LoginUrlFault::NoRedirectUri => OpenIdLoginUrlFault::NoRedirectUri,
+        LoginUrlFault::TooLong => OpenIdLoginUrlFault::TooLong,
+        LoginUrlFault::Memory => OpenIdLoginUrlFault::Memory,
     }
 }
 

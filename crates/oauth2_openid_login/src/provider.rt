@@ -2,17 +2,19 @@
 
 ghost use Rattle.std.specs.Duration.{as_nanos};
 ghost use Rattle.std.specs.Prelude.{◌≡◌, IfOk, Some, map, option_copied, option_map, string_bytes};
-ghost use Rattle.oauth2_redirect.specs.Redirect.{issuer_expectation};
+ghost use Rattle.oauth2_redirect.specs.Redirect.{expectation_of};
 ghost use Rattle.oauth2_openid.specs.Issuers.{named_issuers};
 ghost use Rattle.oauth2_openid_login.specs.Provider.{
   login_expectation,
+  names_issuer,
   new_provider,
   redirect_issuer,
   token_issuers,
 };
 
+use crate::redirect_issuer::RedirectIssuer;
 use oauth2_openid::{Expected, IssuerRule, Nonce};
-use oauth2_redirect::ExpectedIssuer;
+use oauth2_redirect::{ExpectedIssuer, Login, LoginIssuer};
 use oauth2_types::{ClientId, TryClone};
 use std::alloc::{AllocError, Global};
 use std::marker::Model;
@@ -22,7 +24,7 @@ use std::time::Duration;
 #[derive(Debug, Drop)]
 pub struct OpenIdProvider<'a> {
     issuer: &'a str,
-    tells_issuer_in_redirect: bool,
+    redirects: RedirectIssuer,
     issuer_rule: Option<&'a IssuerRule>,
     other_audiences: &'a [&'a str],
     authorized_parties: &'a [&'a str],
@@ -39,7 +41,7 @@ impl<'a> Model for OpenIdProvider<'a> {
 
     ghost view = { λ p. record {
       issuer = p.issuer.now;
-      tells_issuer_in_redirect = p.tells_issuer_in_redirect;
+      redirects = p.redirects;
       issuer_rule = token_issuers p.issuer.now (option_copied p.issuer_rule);
       other_audiences = map (λ t. t.now) p.other_audiences.now;
       authorized_parties = map (λ t. t.now) p.authorized_parties.now;
@@ -51,29 +53,17 @@ impl<'a> Model for OpenIdProvider<'a> {
 impl<'a> OpenIdProvider<'a> {
     /// The provider with this issuer, which is compared byte for byte with `iss` in its redirects
     /// and its ID tokens. `leeway` is the largest difference between its clock and the client's.
-    pub fn new(issuer: &'a str, leeway: Duration) -> OpenIdProvider<'a>
-        ensures { result ≡ new_provider issuer.now (as_nanos leeway) }
+    pub fn new(issuer: &'a str, redirects: RedirectIssuer, leeway: Duration) -> OpenIdProvider<'a>
+        ensures { result ≡ new_provider issuer.now redirects (as_nanos leeway) }
     {
         OpenIdProvider {
             issuer,
-            tells_issuer_in_redirect: false,
+            redirects,
             issuer_rule: None,
             other_audiences: &[],
             authorized_parties: &[],
             algorithm: None,
             leeway,
-        }
-    }
-
-    /// Sets whether its redirects have `iss` (`authorization_response_iss_parameter_supported` of
-    /// its metadata). If they do, a redirect without it is refused. A redirect with another issuer
-    /// is always refused (RFC 9207, section 2.4).
-    pub fn set_tells_issuer_in_redirect(self, tells: bool) -> OpenIdProvider<'a>
-        ensures { result ≡ record self.entry { tells_issuer_in_redirect = tells } }
-    {
-        OpenIdProvider {
-            tells_issuer_in_redirect: tells,
-            ..self
         }
     }
 
@@ -126,14 +116,25 @@ impl<'a> OpenIdProvider<'a> {
         }
     }
 
-    // The issuer that a redirect is expected to come from.
-    pub(crate) fn redirect_issuer(&self) -> ExpectedIssuer<'_>
-        ensures { issuer_expectation result ≡ redirect_issuer self.now }
+    // What a login at this provider keeps of its issuer.
+    pub(crate) fn login_issuer(&self, alloc: Global) -> Result<LoginIssuer, AllocError>
+        ensures { IfOk result (λ issuer. expectation_of issuer ≡ redirect_issuer self.now) }
     {
-        if self.tells_issuer_in_redirect {
-            ExpectedIssuer::Required(self.issuer)
-        } else {
-            ExpectedIssuer::Compared(self.issuer)
+        let issuer = String::from_str(alloc, self.issuer)?;
+        Ok(match self.redirects {
+            RedirectIssuer::InEachRedirect => LoginIssuer::InEachRedirect(issuer),
+            RedirectIssuer::OwnRedirectUri => LoginIssuer::OwnRedirectUri(Some(issuer)),
+        })
+    }
+
+    // Whether a login was started at this provider.
+    pub(crate) fn is_of(&self, login: &Login) -> bool
+        ensures { result ≡ names_issuer login.now.issuer self.now.issuer }
+    {
+        match login.issuer() {
+            ExpectedIssuer::Required(issuer) => self.issuer == issuer,
+            ExpectedIssuer::Compared(issuer) => self.issuer == issuer,
+            ExpectedIssuer::Unknown => false,
         }
     }
 
@@ -142,11 +143,11 @@ impl<'a> OpenIdProvider<'a> {
         &self,
         alloc: Global,
         client_id: &ClientId,
-        nonce: Nonce,
+        nonce: &Nonce,
         max_age: Option<u64>,
     ) -> Result<Expected, AllocError>
         ensures { IfOk result
-            (λ expected. expected ≡ login_expectation self.now client_id.now nonce max_age) }
+            (λ expected. expected ≡ login_expectation self.now client_id.now nonce.now max_age) }
     {
         Ok(Expected {
             issuer: token_issuers(alloc, self.issuer, self.issuer_rule)?,
@@ -154,7 +155,7 @@ impl<'a> OpenIdProvider<'a> {
             other_audiences: owned_texts(alloc, self.other_audiences)?,
             authorized_parties: owned_texts(alloc, self.authorized_parties)?,
             algorithm: copy_optional_text(alloc, self.algorithm)?,
-            nonce: Some(nonce),
+            nonce: Some(nonce.try_clone(alloc)?),
             leeway: self.leeway,
             max_age: max_age.map(Duration::from_secs),
         })

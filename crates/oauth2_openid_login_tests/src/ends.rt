@@ -1,24 +1,43 @@
 //! Tests of logins from their redirect to their ID token.
 
-use crate::support::{End, STORED, check_end, finish, finish_query, response};
+use crate::support::{
+    End, STORED, check_end, client_at, finish, finish_by, finish_query, response,
+};
 use oauth2::{RefreshToken, TokenResponse};
 use oauth2_openid::AccessTokenHash;
-use oauth2_openid_login::{OpenIdLoginEnd, OpenIdLoginError, OpenIdProvider, OpenIdTokenResponse};
-use oauth2_tests_support::{OneReply, check_display, check_equal, check_text, check_written};
+use oauth2_openid_login::{
+    OpenIdLoginEnd, OpenIdLoginError, OpenIdProvider, OpenIdTokenResponse, RedirectIssuer,
+};
+use oauth2_tests_support::{
+    OneReply, check_debug, check_display, check_equal, check_text, check_written,
+};
 use std::alloc::Global;
 use std::test::Fail;
 use std::time::Duration;
 
-// The provider of the standard's examples, which adds its issuer to redirects or not.
-fn provider(tells_issuer_in_redirect: bool) -> OpenIdProvider<'static> {
-    OpenIdProvider::new("http://server.example.com", Duration::from_secs(60))
-        .set_tells_issuer_in_redirect(tells_issuer_in_redirect)
-        .set_algorithm("RS256")
+// The provider of the standard's examples.
+fn provider() -> OpenIdProvider<'static> {
+    OpenIdProvider::new(
+        "http://server.example.com",
+        RedirectIssuer::OwnRedirectUri,
+        Duration::from_secs(60),
+    )
+    .set_algorithm("RS256")
 }
 
 // The same login, which also requested a maximum age.
 const STORED_WITH_AGE: &str =
-    r#"{"max_age":100,"nonce":"n-0S6_WzA2Mj","state":"af0ifjsldkj","verifier":"v"}"#;
+    "{\"client_id\":\"s6BhdRkqt3\",\"issuer\":\"http://server.example.com\",\
+     \"issuer_in_each_redirect\":false,\"max_age\":100,\"nonce\":\"n-0S6_WzA2Mj\",\
+     \"redirect_uri\":\"https://client.example.org/cb\",\"state\":\"af0ifjsldkj\",\
+     \"token_url\":\"https://server.example.com/token\",\"verifier\":\"v\"}";
+
+// The same login, at a provider that names its issuer in each redirect.
+const STORED_WITH_ISSUER: &str =
+    "{\"client_id\":\"s6BhdRkqt3\",\"issuer\":\"http://server.example.com\",\
+     \"issuer_in_each_redirect\":true,\"max_age\":100,\"nonce\":\"n-0S6_WzA2Mj\",\
+     \"redirect_uri\":\"https://client.example.org/cb\",\"state\":\"af0ifjsldkj\",\
+     \"token_url\":\"https://server.example.com/token\",\"verifier\":\"v\"}";
 
 // The redirect of the standard's examples (3.1.2.5), and one that also has the issuer.
 const REDIRECT: &str =
@@ -61,7 +80,7 @@ fn the_login_of_the_standard(rt: HostRuntime) -> Result<(), Fail> {
         &mut http_client,
         STORED,
         REDIRECT_WITH_ISSUER,
-        &provider(true),
+        &provider(),
     )??;
     check_example(&end)?;
     let sent = "grant_type=authorization_code&code=SplxlOBeZQQYbYS6WxSbIA&code_verifier=v\
@@ -94,7 +113,7 @@ const WITH_AUTH_TIME: &str =
 // Checks the result of a login that was stored as this text, if the reply has this body.
 fn check_end_for(alloc: Global, stored: &str, body: &str, wanted: &str) -> Result<(), Fail> {
     let mut http_client = OneReply::with_body(alloc, 200, body)?;
-    let end = finish(alloc, &mut http_client, stored, REDIRECT, &provider(false))?;
+    let end = finish(alloc, &mut http_client, stored, REDIRECT, &provider())?;
     check_end(alloc, end, wanted)
 }
 
@@ -161,15 +180,16 @@ fn a_response_without_an_id_token(rt: HostRuntime) -> Result<(), Fail> {
     Ok(())
 }
 
-// Checks that the error of a redirect returns the login as it was.
-fn check_returned(alloc: Global, end: End, wanted: &str) -> Result<(), Fail> {
+// Checks that the error of a login returns the login as it was stored.
+fn check_returned(alloc: Global, end: End, stored: &str, wanted: &str) -> Result<(), Fail> {
     match end {
-        Err(OpenIdLoginError::Redirect { error, login }) => {
-            check_display(alloc, &error, wanted)?;
-            check_text(login.state().secret().as_str(), "af0ifjsldkj")?;
-            check_written(alloc, &login, STORED_WITH_AGE)
+        Err(OpenIdLoginError::Refused(refused)) => {
+            check_display(alloc, &refused, wanted)?;
+            check_debug(alloc, &refused, "RefusedOpenIdLogin([redacted])")?;
+            check_text(refused.login.state().secret().as_str(), "af0ifjsldkj")?;
+            check_written(alloc, &refused.login, stored)
         }
-        _ => Err(Fail::new("no error of the redirect")),
+        _ => Err(Fail::new("no refusal")),
     }
 }
 
@@ -178,47 +198,44 @@ fn check_returned(alloc: Global, end: End, wanted: &str) -> Result<(), Fail> {
 fn check_redirect_refused(
     alloc: Global,
     redirect: &str,
-    tells_issuer: bool,
+    stored: &str,
     wanted: &str,
 ) -> Result<(), Fail> {
     let mut http_client = OneReply::with_body(alloc, 200, EXAMPLE)?;
-    let provider = provider(tells_issuer);
-    let end = finish(
-        alloc,
-        &mut http_client,
-        STORED_WITH_AGE,
-        redirect,
-        &provider,
-    )?;
-    check_returned(alloc, end, wanted)?;
+    let end = finish(alloc, &mut http_client, stored, redirect, &provider())?;
+    check_returned(alloc, end, stored, wanted)?;
     check_equal(http_client.calls, 0)
 }
 
-// The issuer of a redirect is compared with the provider's, also if the provider is not known to
-// add it (RFC 9207, section 2.4).
+// The issuer of a redirect is compared with the login's, also if the provider is not known to add
+// it (RFC 9207, section 2.4).
 #[test]
 fn a_redirect_without_a_code_of_the_login(rt: HostRuntime) -> Result<(), Fail> {
     let rows = [
-        ("&state=af0ifjsldkj", true, "redirect has another issuer"),
         (
-            "&state=af0ifjsldkj&iss=http%3A%2F%2Fother.example.com",
-            true,
+            "&state=af0ifjsldkj",
+            STORED_WITH_ISSUER,
             "redirect has another issuer",
         ),
         (
             "&state=af0ifjsldkj&iss=http%3A%2F%2Fother.example.com",
-            false,
+            STORED_WITH_ISSUER,
+            "redirect has another issuer",
+        ),
+        (
+            "&state=af0ifjsldkj&iss=http%3A%2F%2Fother.example.com",
+            STORED_WITH_AGE,
             "redirect has another issuer",
         ),
         (
             "&state=bf0ifjsldkj&iss=http%3A%2F%2Fserver.example.com",
-            true,
+            STORED_WITH_ISSUER,
             "redirect has another state",
         ),
     ];
-    for (rest, tells_issuer, expected) in rows {
+    for (rest, stored, expected) in rows {
         let redirect = format!(in rt.alloc(); "https://client.example.org/cb?code=c{rest}")?;
-        check_redirect_refused(rt.alloc(), redirect.as_str(), tells_issuer, expected)?;
+        check_redirect_refused(rt.alloc(), redirect.as_str(), stored, expected)?;
     }
     Ok(())
 }
@@ -229,6 +246,100 @@ fn a_redirect_without_a_code_of_the_login(rt: HostRuntime) -> Result<(), Fail> {
 fn a_login_that_is_finished_by_a_form(rt: HostRuntime) -> Result<(), Fail> {
     let mut http_client = OneReply::with_body(rt.alloc(), 200, EXAMPLE)?;
     let form = "state=af0ifjsldkj&code=SplxlOBeZQQYbYS6WxSbIA&iss=http%3A%2F%2Fserver.example.com";
-    let end = finish_query(rt.alloc(), &mut http_client, STORED, form, &provider(false))?;
+    let end = finish_query(rt.alloc(), &mut http_client, STORED, form, &provider())?;
+    check_end(rt.alloc(), end, "Absent")
+}
+
+// Checks that a login sends nothing and is returned, if it is finished by this client, or with this
+// issuer of the provider, or with a redirect to this URL.
+fn check_refused(
+    alloc: Global,
+    (client_id, token_url): (&str, &str),
+    issuer: &str,
+    place: &str,
+    wanted: &str,
+) -> Result<(), Fail> {
+    let client = client_at(alloc, client_id, token_url)?;
+    let redirect = format!(in alloc; "{place}?code=c&state=af0ifjsldkj")?;
+    let mut http_client = OneReply::with_body(alloc, 200, EXAMPLE)?;
+    let provider = OpenIdProvider::new(
+        issuer,
+        RedirectIssuer::OwnRedirectUri,
+        Duration::from_secs(60),
+    );
+    let end = finish_by(
+        alloc,
+        &client,
+        &mut http_client,
+        STORED_WITH_AGE,
+        redirect.as_str(),
+        &provider,
+    )?;
+    check_returned(alloc, end, STORED_WITH_AGE, wanted)?;
+    check_equal(http_client.calls, 0)
+}
+
+const CLIENT: (&str, &str) = ("s6BhdRkqt3", "https://server.example.com/token");
+
+const ISSUER: &str = "http://server.example.com";
+
+const PLACE: &str = "https://client.example.org/cb";
+
+// Each cause comes before the later ones: in the last row all of them hold.
+#[test]
+fn a_login_of_another_server_or_place(rt: HostRuntime) -> Result<(), Fail> {
+    let other_client = ("other", "https://server.example.com/token");
+    let other_endpoint = ("s6BhdRkqt3", "https://attacker.example/token");
+    let insecure = ("s6BhdRkqt3", "http://server.example.com/token");
+    let all = ("other", "http://attacker.example/token");
+    let other_issuer = "http://attacker.example";
+    let other_place = "https://client.example.org/other";
+    let rows = [
+        (
+            insecure,
+            ISSUER,
+            PLACE,
+            "token endpoint is not an https URL",
+        ),
+        (CLIENT, other_issuer, PLACE, "login is of another provider"),
+        (other_client, ISSUER, PLACE, "login is of another client"),
+        (
+            other_endpoint,
+            ISSUER,
+            PLACE,
+            "login is of another token endpoint",
+        ),
+        (CLIENT, ISSUER, other_place, "redirect came to another URI"),
+        (
+            all,
+            other_issuer,
+            other_place,
+            "token endpoint is not an https URL",
+        ),
+    ];
+    for (client, issuer, place, expected) in rows {
+        check_refused(rt.alloc(), client, issuer, place, expected)?;
+    }
+    Ok(())
+}
+
+// A login whose token endpoint is on the client's own machine.
+const STORED_ON_LOOPBACK: &str = r#"{"client_id":"s6BhdRkqt3","issuer":"http://server.example.com",
+    "issuer_in_each_redirect":false,"nonce":"n-0S6_WzA2Mj",
+    "redirect_uri":"https://client.example.org/cb","state":"af0ifjsldkj",
+    "token_url":"http://localhost:8080/token","verifier":"v"}"#;
+
+#[test]
+fn a_token_endpoint_on_loopback(rt: HostRuntime) -> Result<(), Fail> {
+    let client = client_at(rt.alloc(), "s6BhdRkqt3", "http://localhost:8080/token")?;
+    let mut http_client = OneReply::with_body(rt.alloc(), 200, EXAMPLE)?;
+    let end = finish_by(
+        rt.alloc(),
+        &client,
+        &mut http_client,
+        STORED_ON_LOOPBACK,
+        REDIRECT,
+        &provider(),
+    )?;
     check_end(rt.alloc(), end, "Absent")
 }

@@ -1,10 +1,10 @@
 //! Tests of providers whose ID tokens have several issuers, audiences or authorized parties.
 
-use crate::support::{STORED, check_end, finish_query, response};
+use crate::support::{check_end, finish_query, response};
 use oauth2_openid::IssuerRule;
-use oauth2_openid_login::OpenIdProvider;
+use oauth2_openid_login::{OpenIdProvider, RedirectIssuer};
 use oauth2_tests_support::{OneReply, text};
-use std::alloc::Global;
+use std::alloc::{AllocError, Global};
 use std::test::Fail;
 use std::time::Duration;
 
@@ -32,13 +32,28 @@ const FOR_ANOTHER_AUDIENCE: &str =
      MTMxMTI4MTk3MCwiaWF0IjoxMzExMjgwOTcwLCJhenAiOiJzNkJoZFJrcXQzIn0";
 
 fn provider(issuer: &str) -> OpenIdProvider<'_> {
-    OpenIdProvider::new(issuer, Duration::from_secs(60))
+    OpenIdProvider::new(
+        issuer,
+        RedirectIssuer::OwnRedirectUri,
+        Duration::from_secs(60),
+    )
 }
 
-// Checks the result of a login at this provider, if the reply has these claims, and the redirect
-// has this query next to its state and its code.
+// A login that was stored at the provider with this issuer.
+fn stored_at(alloc: Global, issuer: &str) -> Result<String, AllocError> {
+    format!(in alloc;
+        "{{\"client_id\":\"s6BhdRkqt3\",\"issuer\":\"{issuer}\",\"issuer_in_each_redirect\":false,\
+         \"nonce\":\"n-0S6_WzA2Mj\",\"redirect_uri\":\"https://client.example.org/cb\",\
+         \"state\":\"af0ifjsldkj\",\"token_url\":\"https://server.example.com/token\",\
+         \"verifier\":\"v\"}}"
+    )
+}
+
+// Checks the result of a login at this provider, which has this issuer, if the reply has these
+// claims, and the redirect has this query next to its state and its code.
 fn check_login(
     alloc: Global,
+    issuer: &str,
     provider: &OpenIdProvider<'_>,
     claims: &str,
     more: &str,
@@ -47,7 +62,14 @@ fn check_login(
     let query = format!(in alloc; "state=af0ifjsldkj&code=c{more}")?;
     let body = response(alloc, claims)?;
     let mut http_client = OneReply::with_body(alloc, 200, body.as_str())?;
-    let end = finish_query(alloc, &mut http_client, STORED, query.as_str(), provider)?;
+    let stored = stored_at(alloc, issuer)?;
+    let end = finish_query(
+        alloc,
+        &mut http_client,
+        stored.as_str(),
+        query.as_str(),
+        provider,
+    )?;
     check_end(alloc, end, wanted)
 }
 
@@ -61,13 +83,13 @@ fn an_issuer_for_each_tenant(rt: HostRuntime) -> Result<(), Fail> {
         after: text(alloc, "/v2.0")?,
     };
     let wrong = "ID token: the issuer is another one";
-    check_login(alloc, &provider(own), OF_A_TENANT, "", wrong)?;
+    check_login(alloc, own, &provider(own), OF_A_TENANT, "", wrong)?;
     let entra = provider(own).set_issuer_rule(&tenants);
-    check_login(alloc, &entra, OF_A_TENANT, "", "Absent")?;
-    check_login(alloc, &entra, OF_THE_SECOND_SPELLING, "", wrong)?;
+    check_login(alloc, own, &entra, OF_A_TENANT, "", "Absent")?;
+    check_login(alloc, own, &entra, OF_THE_SECOND_SPELLING, "", wrong)?;
     let of_a_tenant = "&iss=https://login.microsoftonline.com/9122040d/v2.0";
     let wrong = "redirect has another issuer";
-    check_login(alloc, &entra, OF_A_TENANT, of_a_tenant, wrong)
+    check_login(alloc, own, &entra, OF_A_TENANT, of_a_tenant, wrong)
 }
 
 #[test]
@@ -80,11 +102,18 @@ fn an_issuer_of_two_spellings(rt: HostRuntime) -> Result<(), Fail> {
     }
     let spellings = IssuerRule::OneOf(spellings);
     let wrong = "ID token: the issuer is another one";
-    check_login(alloc, &provider(own), OF_THE_SECOND_SPELLING, "", wrong)?;
+    check_login(
+        alloc,
+        own,
+        &provider(own),
+        OF_THE_SECOND_SPELLING,
+        "",
+        wrong,
+    )?;
     let google = provider(own).set_issuer_rule(&spellings);
     let told = "&iss=https%3A%2F%2Faccounts.google.com";
-    check_login(alloc, &google, OF_THE_SECOND_SPELLING, told, "Absent")?;
-    check_login(alloc, &google, OF_A_TENANT, told, wrong)
+    check_login(alloc, own, &google, OF_THE_SECOND_SPELLING, told, "Absent")?;
+    check_login(alloc, own, &google, OF_A_TENANT, told, wrong)
 }
 
 #[test]
@@ -94,13 +123,13 @@ fn other_audiences_and_parties(rt: HostRuntime) -> Result<(), Fail> {
     let app = ["1234987819200-android.apps.googleusercontent.com"];
     let wrong = "ID token: the authorized party is another one";
     let audiences = provider(own).set_other_audiences(&app);
-    check_login(alloc, &audiences, OF_AN_APP, "", wrong)?;
+    check_login(alloc, own, &audiences, OF_AN_APP, "", wrong)?;
     let parties = provider(own).set_authorized_parties(&app);
-    check_login(alloc, &parties, OF_AN_APP, "", "Absent")?;
+    check_login(alloc, own, &parties, OF_AN_APP, "", "Absent")?;
     let api = ["https://api.example.com"];
     let wrong = "ID token: an audience is not trusted";
     let parties = provider(own).set_authorized_parties(&api);
-    check_login(alloc, &parties, FOR_ANOTHER_AUDIENCE, "", wrong)?;
+    check_login(alloc, own, &parties, FOR_ANOTHER_AUDIENCE, "", wrong)?;
     let audiences = provider(own).set_other_audiences(&api);
-    check_login(alloc, &audiences, FOR_ANOTHER_AUDIENCE, "", "Absent")
+    check_login(alloc, own, &audiences, FOR_ANOTHER_AUDIENCE, "", "Absent")
 }

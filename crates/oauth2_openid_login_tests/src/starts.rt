@@ -4,7 +4,10 @@ ghost use Rattle.std.specs.Prelude.{◌≡◌, None, IfOk};
 
 use crate::support::{client, client_without_redirect};
 use oauth2::{ParseCause, RedirectUrl, Scope};
-use oauth2_openid_login::{OpenIdClient, OpenIdLogin, OpenIdLoginRequest, OpenIdLoginUrlFault};
+use oauth2_openid_login::{
+    OpenIdClient, OpenIdLogin, OpenIdLoginRequest, OpenIdLoginUrlFault, OpenIdProvider,
+    RedirectIssuer,
+};
 use oauth2_tests_support::{
     check_debug, check_display, check_fault, check_text, check_written, read, text,
 };
@@ -16,7 +19,12 @@ use std::time::Duration;
 fn start(alloc: Global, client: &OpenIdClient) -> Result<OpenIdLoginRequest<'_>, AllocError>
     ensures { IfOk result (λ request. request.max_age ≡ None) }
 {
-    OpenIdLogin::start(alloc, client, &mut Pcg32::new(42, 54))
+    let provider = OpenIdProvider::new(
+        "http://server.example.com",
+        RedirectIssuer::InEachRedirect,
+        Duration::from_secs(60),
+    );
+    OpenIdLogin::start(alloc, client, &provider, &mut Pcg32::new(42, 54))
 }
 
 // Checks that a login has this URL, and is stored as this text.
@@ -45,9 +53,10 @@ fn a_login_is_started(rt: HostRuntime) -> Result<(), Fail> {
          &state=twJcoQn0R3swMx26k_LSgw&code_challenge=H7ZdcLcbjjOKQshuaEBh45jlXGBfQdZSXs7wHPjiPgQ\
          &code_challenge_method=S256&redirect_uri=https%3A%2F%2Fclient.example.org%2Fcb\
          &scope=openid&nonce=Jmh47R1EIjjXE6Eri4FbHA",
-        "{\"nonce\":\"Jmh47R1EIjjXE6Eri4FbHA\",\
+        "{\"client_id\":\"s6BhdRkqt3\",\"issuer\":\"http://server.example.com\",\
+         \"issuer_in_each_redirect\":true,\"nonce\":\"Jmh47R1EIjjXE6Eri4FbHA\",\
          \"redirect_uri\":\"https://client.example.org/cb\",\"state\":\"twJcoQn0R3swMx26k_LSgw\",\
-         \"verifier\":\"S3ikv25g7cuto8a_bf8vgVowH-aQSzj5_obbMvk1wB0\"}",
+         \"token_url\":\"https://server.example.com/token\",\"verifier\":\"S3ikv25g7cuto8a_bf8vgVowH-aQSzj5_obbMvk1wB0\"}",
     )
 }
 
@@ -74,32 +83,40 @@ fn a_login_is_started_with_more(rt: HostRuntime) -> Result<(), Fail> {
          &state=twJcoQn0R3swMx26k_LSgw&code_challenge=H7ZdcLcbjjOKQshuaEBh45jlXGBfQdZSXs7wHPjiPgQ\
          &code_challenge_method=S256&redirect_uri=https%3A%2F%2Fapp.example%2Fcb\
          &scope=openid+profile+email&nonce=Jmh47R1EIjjXE6Eri4FbHA&prompt=consent&max_age=3600",
-        "{\"max_age\":3600,\"nonce\":\"Jmh47R1EIjjXE6Eri4FbHA\",\
+        "{\"client_id\":\"s6BhdRkqt3\",\"issuer\":\"http://server.example.com\",\
+         \"issuer_in_each_redirect\":true,\"max_age\":3600,\
+         \"nonce\":\"Jmh47R1EIjjXE6Eri4FbHA\",\
          \"redirect_uri\":\"https://app.example/cb\",\"state\":\"twJcoQn0R3swMx26k_LSgw\",\
-         \"verifier\":\"S3ikv25g7cuto8a_bf8vgVowH-aQSzj5_obbMvk1wB0\"}",
+         \"token_url\":\"https://server.example.com/token\",\"verifier\":\"S3ikv25g7cuto8a_bf8vgVowH-aQSzj5_obbMvk1wB0\"}",
     )
 }
 
 #[test]
 fn a_login_is_stored(rt: HostRuntime) -> Result<(), Fail> {
     let alloc = rt.alloc();
-    let stored = r#"{"max_age":0,"nonce":"n","state":"s","verifier":"v"}"#;
+    let stored =
+        "{\"client_id\":\"c\",\"issuer\":\"i\",\"issuer_in_each_redirect\":false,\"max_age\":0,\
+         \"nonce\":\"n\",\"redirect_uri\":\"https://app.example/cb\",\"state\":\"s\",\
+         \"token_url\":\"https://as.example/token\",\"verifier\":\"v\"}";
     let login: OpenIdLogin = read(alloc, stored)?;
     check_written(alloc, &login, stored)?;
     check_debug(alloc, &login, "OpenIdLogin([redacted])")?;
     for (stored, member, cause) in [
         (
-            r#"{"state":"s","verifier":"v"}"#,
+            r#"{"client_id":"c","issuer_in_each_redirect":false,
+                "redirect_uri":"https://app.example/cb","token_url":"t","state":"s","verifier":"v"}"#,
             "nonce",
             ParseCause::Missing,
         ),
         (
-            r#"{"nonce":"n","verifier":"v"}"#,
+            r#"{"client_id":"c","issuer_in_each_redirect":false,
+                "redirect_uri":"https://app.example/cb","token_url":"t","nonce":"n","verifier":"v"}"#,
             "state",
             ParseCause::Missing,
         ),
         (
-            r#"{"max_age":-1,"nonce":"n","state":"s","verifier":"v"}"#,
+            r#"{"client_id":"c","issuer_in_each_redirect":false,
+                "redirect_uri":"https://app.example/cb","token_url":"t","max_age":-1,"nonce":"n","state":"s","verifier":"v"}"#,
             "max_age",
             ParseCause::OutOfRange,
         ),

@@ -17,15 +17,24 @@ pub(crate) type End = Result<
     OpenIdLoginError<NoReply, BasicErrorResponse>,
 >;
 
-/// A stored login with the nonce of the standard's examples.
-pub(crate) const STORED: &str = r#"{"nonce":"n-0S6_WzA2Mj","state":"af0ifjsldkj","verifier":"v"}"#;
+/// A stored login with the nonce of the standard's examples. Its redirect URI is used for the
+/// provider alone.
+pub(crate) const STORED: &str = r#"{"client_id":"s6BhdRkqt3","issuer":"http://server.example.com",
+    "issuer_in_each_redirect":false,"nonce":"n-0S6_WzA2Mj",
+    "redirect_uri":"https://client.example.org/cb","state":"af0ifjsldkj",
+    "token_url":"https://server.example.com/token","verifier":"v"}"#;
+
+/// A client with this identifier and this token endpoint, without a redirect URI.
+pub(crate) fn client_at(alloc: Global, id: &str, token_url: &str) -> Result<OpenIdClient, Fail> {
+    let auth = AuthUrl::new(alloc, text(alloc, "https://server.example.com/authorize")?)?;
+    let token = TokenUrl::new(alloc, text(alloc, token_url)?)?;
+    let client = Client::new(ClientId::new(text(alloc, id)?));
+    Ok(client.set_auth_uri(auth).set_token_uri(token))
+}
 
 /// The client of the standard's examples, without a redirect URI.
 pub(crate) fn client_without_redirect(alloc: Global) -> Result<OpenIdClient, Fail> {
-    let auth = AuthUrl::new(alloc, text(alloc, "https://server.example.com/authorize")?)?;
-    let token = TokenUrl::new(alloc, text(alloc, "https://server.example.com/token")?)?;
-    let client = Client::new(ClientId::new(text(alloc, "s6BhdRkqt3")?));
-    Ok(client.set_auth_uri(auth).set_token_uri(token))
+    client_at(alloc, "s6BhdRkqt3", "https://server.example.com/token")
 }
 
 /// The client of the standard's examples.
@@ -39,7 +48,8 @@ fn now() -> Result<Timestamp, Fail> {
     Ok(Timestamp::from_second(1311281000).ok().ok_or("no time")?)
 }
 
-/// Finishes the login that was stored as this text, with this query of its redirect.
+/// Finishes the login that was stored as this text, with this query of the redirect to the client's
+/// redirect URI.
 pub(crate) fn finish_query(
     alloc: Global,
     http_client: &mut OneReply,
@@ -49,8 +59,17 @@ pub(crate) fn finish_query(
 ) -> Result<End, Fail> {
     let now = now()?;
     let client = client(alloc)?;
+    let called = url(alloc, "https://client.example.org/cb")?;
     let login: OpenIdLogin = read(alloc, stored)?;
-    Ok(login.finish_query(alloc, &client, http_client, query, provider, || now))
+    Ok(login.finish_query_without_signature(
+        alloc,
+        &client,
+        http_client,
+        &called,
+        query,
+        provider,
+        || now,
+    ))
 }
 
 /// Finishes the login that was stored as this text, with this redirect.
@@ -61,11 +80,29 @@ pub(crate) fn finish(
     redirect: &str,
     provider: &OpenIdProvider<'_>,
 ) -> Result<End, Fail> {
+    finish_by(
+        alloc,
+        &client(alloc)?,
+        http_client,
+        stored,
+        redirect,
+        provider,
+    )
+}
+
+/// Finishes the login that was stored as this text, by this client.
+pub(crate) fn finish_by(
+    alloc: Global,
+    client: &OpenIdClient,
+    http_client: &mut OneReply,
+    stored: &str,
+    redirect: &str,
+    provider: &OpenIdProvider<'_>,
+) -> Result<End, Fail> {
     let now = now()?;
     let redirect = url(alloc, redirect)?;
-    let client = client(alloc)?;
     let login: OpenIdLogin = read(alloc, stored)?;
-    Ok(login.finish(alloc, &client, http_client, &redirect, provider, || now))
+    Ok(login.finish_without_signature(alloc, client, http_client, &redirect, provider, || now))
 }
 
 /// The response of the standard's example with these claims.

@@ -1,4 +1,3 @@
-pub mod Signature
 pub mod Unverified
 pub mod End
 pub mod Provider

@@ -1,7 +1,7 @@
 -- What a client knows of a provider whose ID tokens it verifies.
 use Rattle.std.specs.Prelude.{Some}
 use Rattle.oauth2_openid_login.specs.Provider.{Provider}
-use Rattle.oauth2_verified_login.specs.Signature.{Check, registered_algorithm}
+use Rattle.oauth2_keys.specs.Signature.{Check, registered_algorithm}
 
 -- what is expected of a provider's redirects and of the claims of its ID tokens, and how the
 -- signature of an ID token is checked

@@ -4,7 +4,7 @@ use Rattle.oauth2_openid.specs.Seen.{token_of}
 use Rattle.oauth2_keys.specs.declared.signature_error.SignatureError.{SignatureError}
 use Rattle.oauth2_keys.specs.ErrorTexts.{signature_error_text}
 use Rattle.oauth2_openid_login.specs.declared.login_end.OpenIdLoginEnd.{OpenIdLoginEnd}
-use Rattle.oauth2_verified_login.specs.Signature.{Check, IsSigned, IsSignatureRefusal}
+use Rattle.oauth2_keys.specs.Signature.{Check, IsSigned, IsSignatureRefusal}
 
 -- the end of a login whose ID token has a refused signature, and why it is refused
 pub record Unverified (D : Type 0) : Type 0 where

@@ -6,9 +6,8 @@
 mod login_end;
 mod login_error;
 mod provider;
-mod signature_check;
 
 pub use login_end::{UnverifiedLogin, VerifiedLoginEnd};
 pub use login_error::VerifiedLoginError;
+pub use oauth2_keys::SignatureCheck;
 pub use provider::VerifiedProvider;
-pub use signature_check::SignatureCheck;

@@ -2,11 +2,10 @@
 
 ghost use Rattle.std.specs.Fmt.{DisplaysOnOk, WritesStyledOnOk};
 ghost use Rattle.std.specs.Prelude.{◌≡◌, Some, codes};
-ghost use Rattle.oauth2_verified_login.specs.Signature.{check_of};
+ghost use Rattle.oauth2_keys.specs.Signature.{check_of};
 ghost use Rattle.oauth2_verified_login.specs.Unverified.{Verifies, unverified_text};
 
-use crate::signature_check::SignatureCheck;
-use oauth2_keys::SignatureError;
+use oauth2_keys::{SignatureCheck, SignatureError};
 use oauth2_openid::{AccessTokenHash, IdToken};
 use oauth2_openid_login::OpenIdLoginEnd;
 use oauth2_types::display::write_display;

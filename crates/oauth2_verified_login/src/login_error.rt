@@ -8,7 +8,8 @@ use std::fmt;
 /// Why a login returned no user.
 #[derive(Drop)]
 pub enum VerifiedLoginError<TR, RE, T> {
-    /// The login failed before its signature was checked: the error of `OpenIdLogin::finish`.
+    /// The login failed before its signature was checked: the error of
+    /// `OpenIdLogin::finish_without_signature`.
     Login(OpenIdLoginError<RE, T>),
     /// The ID token meets every rule for its claims, but its signature is refused. The tokens are
     /// in this error.

@@ -6,14 +6,14 @@ ghost use Rattle.oauth2_form.specs.Query.{query_form};
 ghost use Rattle.oauth2_openid.specs.Seen.{token_of};
 ghost use Rattle.oauth2_verified_login.specs.End.{FinishesVerifiedLogin, before_signature};
 ghost use Rattle.oauth2_verified_login.specs.Provider.{verifying};
-ghost use Rattle.oauth2_verified_login.specs.Signature.{IsSignatureRefusal, IsSigned, check_of};
+ghost use Rattle.oauth2_keys.specs.Signature.{IsSignatureRefusal, IsSigned, check_of};
 
 use crate::login_end::{VerifiedLoginEnd, verify_end};
 use crate::login_error::VerifiedLoginError;
-use crate::signature_check::SignatureCheck;
 use jiff::Timestamp;
 use oauth2::{Client, EndpointSet, EndpointState};
 use oauth2_codes::ErrorResponse;
+use oauth2_keys::SignatureCheck;
 use oauth2_openid_login::{
     HasIdToken, OpenIdLogin, OpenIdLoginEnd, OpenIdLoginError, OpenIdProvider,
 };
@@ -32,7 +32,7 @@ pub struct VerifiedProvider<'a> {
 
 impl<'a> Model for VerifiedProvider<'a> {
     ghost use Rattle.oauth2_verified_login.specs.Provider.{Verifying};
-    ghost use Rattle.oauth2_verified_login.specs.Signature.{check_of};
+    ghost use Rattle.oauth2_keys.specs.Signature.{check_of};
 
     ghost Value = { Verifying };
 
@@ -51,9 +51,9 @@ impl<'a> VerifiedProvider<'a> {
         }
     }
 
-    /// Ends a login at this provider as `OpenIdLogin::finish` does, and checks the signature of the
-    /// ID token. If only the signature is refused, the code is spent, and the error holds the
-    /// tokens for a check by other keys.
+    /// Ends a login at this provider as `OpenIdLogin::finish_without_signature` does, and checks the
+    /// signature of the ID token. If only the signature is refused, the code is spent, and the error
+    /// holds the tokens for a check by other keys.
     pub fn finish<TE, TR, TIR, RT, TRE, A, D, I, R, C: SyncHttpClient, K>(
         &self,
         alloc: Global,
@@ -75,20 +75,31 @@ impl<'a> VerifiedProvider<'a> {
         requires clock { K.IsAlwaysCallable clock }
         ensures { FinishesVerifiedLogin TR.meaning TE.meaning TR.reading TE.reading C.is_ready
             C.step TR.access_token TR.token_type_text TR.id_token client.now login self.now
-            (K.post clock) (query_form redirect.now) http_client.old result http_client.new }
+            (K.post clock) redirect.now (query_form redirect.now) http_client.old result
+            http_client.new }
     {
-        let ended = login.finish(alloc, client, http_client, redirect, &self.provider, clock);
+        let ended = login.finish_without_signature(
+            alloc,
+            client,
+            http_client,
+            redirect,
+            &self.provider,
+            clock,
+        );
         verified_end(ended, self.check)
     }
 
-    /// As `finish`, for a handler that has no `Url`. `query` is the redirect's query without the
-    /// `?`, or the form in the body of the request (`response_mode=form_post`).
+    /// As `finish`, for a handler that has no `Url` of the redirect. `called` is the URL to which the
+    /// redirect came, with its query: behind a proxy, the redirect URI that the handler serves
+    /// there. `query` holds the parameters of the redirect: that query without the `?`, or the form
+    /// in the body of the request (`response_mode=form_post`).
     pub fn finish_query<TE, TR, TIR, RT, TRE, A, D, I, R, C: SyncHttpClient, K>(
         &self,
         alloc: Global,
         login: OpenIdLogin,
         client: &Client<TE, TR, TIR, RT, TRE, A, D, I, R, EndpointSet>,
         http_client: &mut C,
+        called: &Url,
         query: &str,
         clock: K,
     ) -> Result<VerifiedLoginEnd<TR>, VerifiedLoginError<TR, C::Error, TE>>
@@ -104,10 +115,18 @@ impl<'a> VerifiedProvider<'a> {
         requires clock { K.IsAlwaysCallable clock }
         ensures { FinishesVerifiedLogin TR.meaning TE.meaning TR.reading TE.reading C.is_ready
             C.step TR.access_token TR.token_type_text TR.id_token client.now login self.now
-            (K.post clock) (form query.now) http_client.old result http_client.new }
+            (K.post clock) called.now (form query.now) http_client.old result http_client.new }
     {
-        let ended = login.finish_query(alloc, client, http_client, query, &self.provider, clock);
-        verified_end(ended, self.check)
+        let finished = login.finish_query_without_signature(
+            alloc,
+            client,
+            http_client,
+            called,
+            query,
+            &self.provider,
+            clock,
+        );
+        verified_end(finished, self.check)
     }
 }
 

@@ -6,7 +6,9 @@ use oauth2::basic::BasicErrorResponse;
 use oauth2::url::Url;
 use oauth2::{ClientSecret, FromJson, TokenResponse, read_body};
 use oauth2_keys::{JsonWebKeySet, SecretAlgorithm, SignatureAlgorithm};
-use oauth2_openid_login::{OpenIdClient, OpenIdLogin, OpenIdProvider, OpenIdTokenResponse};
+use oauth2_openid_login::{
+    OpenIdClient, OpenIdLogin, OpenIdProvider, OpenIdTokenResponse, RedirectIssuer,
+};
 use oauth2_verified_login::{
     SignatureCheck, UnverifiedLogin, VerifiedLoginEnd, VerifiedLoginError, VerifiedProvider,
 };
@@ -19,11 +21,12 @@ type Ended = Result<
     VerifiedLoginError<OpenIdTokenResponse, NoReply, BasicErrorResponse>,
 >;
 
-// A stored login with the nonce of the standard's examples, and its redirect.
-const KEPT: &str = r#"{"nonce":"n-0S6_WzA2Mj","state":"af0ifjsldkj","verifier":"v"}"#;
-
+// The redirect of the standard's examples.
 const REDIRECT: &str =
     "https://client.example.org/cb?code=SplxlOBeZQQYbYS6WxSbIA&state=af0ifjsldkj";
+
+// The same redirect by a form: the URL that is called, and the body.
+const CALLED: &str = "https://client.example.org/cb";
 
 const FORM: &str = "code=SplxlOBeZQQYbYS6WxSbIA&state=af0ifjsldkj";
 
@@ -44,7 +47,8 @@ fn check_of<'a>(
 }
 
 fn provider_of<'a>(issuer: &'a str, check: SignatureCheck<'a>) -> VerifiedProvider<'a> {
-    let provider = OpenIdProvider::new(issuer, Duration::from_secs(60));
+    let leeway = Duration::from_secs(60);
+    let provider = OpenIdProvider::new(issuer, RedirectIssuer::OwnRedirectUri, leeway);
     VerifiedProvider::new(provider, check)
 }
 
@@ -53,8 +57,15 @@ fn now() -> anyhow::Result<Timestamp> {
     Ok(Timestamp::from_second(1_311_281_000)?)
 }
 
-fn kept_login(alloc: Global) -> anyhow::Result<OpenIdLogin> {
-    Ok(read_body::<OpenIdLogin>(alloc, KEPT.as_bytes())?)
+// A stored login at the provider with this issuer, with the nonce of the standard's examples.
+fn kept_login(alloc: Global, issuer: &str) -> anyhow::Result<OpenIdLogin> {
+    let kept = format!(in alloc;
+        "{{\"client_id\":\"s6BhdRkqt3\",\"issuer\":\"{issuer}\",\"issuer_in_each_redirect\":false,\
+         \"nonce\":\"n-0S6_WzA2Mj\",\"redirect_uri\":\"https://client.example.org/cb\",\
+         \"state\":\"af0ifjsldkj\",\"token_url\":\"https://server.example.com/token\",\
+         \"verifier\":\"v\"}}"
+    )?;
+    Ok(read_body::<OpenIdLogin>(alloc, kept.as_bytes())?)
 }
 
 // The result of a login with a redirect.
@@ -62,12 +73,12 @@ fn ended_by_redirect(
     alloc: Global,
     client: &OpenIdClient,
     provider: &VerifiedProvider<'_>,
+    login: OpenIdLogin,
     token: &str,
 ) -> anyhow::Result<Ended> {
     let now = now()?;
     let redirect = Url::parse(alloc, REDIRECT)?;
     let mut http_client = OneReply::new(alloc, token)?;
-    let login = kept_login(alloc)?;
     Ok(provider.finish(alloc, login, client, &mut http_client, &redirect, || now))
 }
 
@@ -76,12 +87,21 @@ fn ended_by_form(
     alloc: Global,
     client: &OpenIdClient,
     provider: &VerifiedProvider<'_>,
+    login: OpenIdLogin,
     token: &str,
 ) -> anyhow::Result<Ended> {
     let now = now()?;
+    let called = Url::parse(alloc, CALLED)?;
     let mut http_client = OneReply::new(alloc, token)?;
-    let login = kept_login(alloc)?;
-    Ok(provider.finish_query(alloc, login, client, &mut http_client, FORM, || now))
+    Ok(provider.finish_query(
+        alloc,
+        login,
+        client,
+        &mut http_client,
+        &called,
+        FORM,
+        || now,
+    ))
 }
 
 fn ended_again(
@@ -110,11 +130,20 @@ fn ended_by(
     client: &OpenIdClient,
     provider: &VerifiedProvider<'_>,
     command: &str,
+    issuer: &str,
     token: &str,
 ) -> anyhow::Result<Option<Ended>> {
+    let login = kept_login(
+        alloc,
+        if command == "other" {
+            "https://other.example"
+        } else {
+            issuer
+        },
+    )?;
     match command {
-        "login" => Ok(Some(ended_by_redirect(alloc, client, provider, token)?)),
-        "form" => Ok(Some(ended_by_form(alloc, client, provider, token)?)),
+        "login" | "other" => { Ok(Some(ended_by_redirect(alloc, client, provider, login, token)?)) }
+        "form" => Ok(Some(ended_by_form(alloc, client, provider, login, token)?)),
         _ => Ok(None),
     }
 }
@@ -132,9 +161,10 @@ fn ended_of(
     let Some(check) = check_of(words.next().unwrap_or(""), keys, secret) else {
         return Ok(None);
     };
-    let provider = provider_of(words.next().unwrap_or(""), check);
+    let issuer = words.next().unwrap_or("");
+    let provider = provider_of(issuer, check);
     let token = words.next().unwrap_or("");
-    ended_by(alloc, client, &provider, command, token)
+    ended_by(alloc, client, &provider, command, issuer, token)
 }
 
 /// The logins of a run.

@@ -3,7 +3,8 @@
 //! A line `keys JSON` reads a key set, and a line `secret TEXT` sets the client's secret. A line
 //! `login ALGORITHM ISSUER TOKEN` finishes a login at the provider of that issuer, whose token
 //! response has that ID token, and prints who the user is, or why there is none. A line `form` does
-//! the same for a redirect whose parameters are a form. A line `again ALGORITHM` checks the
+//! the same for a redirect whose parameters are a form, and a line `other` for a login that was
+//! started at another provider. A line `again ALGORITHM` checks the
 //! signature again that was refused last, and a line `give up` prints the access token that came
 //! with it. A line that begins with `#` is a heading, and is printed as it is. The file `stdout`
 //! has the expected output for the file `stdin`.

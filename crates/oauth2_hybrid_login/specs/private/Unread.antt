@@ -10,6 +10,7 @@ use Rattle.oauth2_hybrid_login.specs.declared.front_token_error.FrontTokenError.
 
 -- the front channel's error for an ID token that could not be read
 abbrev pub unread_as : IdTokenReadError → FrontTokenError
+unread_as read.TooLong = Read read.TooLong
 unread_as read.NotThreeParts = Read read.NotThreeParts
 unread_as (read.NotBase64 part) = Read (read.NotBase64 part)
 unread_as (read.Fault part fault) = Read (read.Fault part fault)

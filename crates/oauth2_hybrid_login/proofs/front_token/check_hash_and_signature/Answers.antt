@@ -1,6 +1,7 @@
 use Rattle.std.proofs.Common.{refl, sym}
 use Rattle.oauth2_openid.specs.Seen.{token_of}
-use Rattle.oauth2_hybrid_login.proofs.FrontLaws.{front-algorithm, front-extension, front-claims, found_hash}
+use Rattle.oauth2_openid.proofs.TokenRuleLaws.{rules_held}
+use Rattle.oauth2_hybrid_login.proofs.FrontLaws.{found_hash}
 use Rattle.oauth2_hybrid_login.proofs.front_token.check_hash_and_signature.Goals as goal
 
 pub returns-in-Ok : goal.returns-in-Ok
@@ -8,9 +9,7 @@ returns-in-Ok c = λ expected now met.
     let token = token_of c.args.token.now in
     let hash = found_hash token c.args.code.now c.in-Some.told.now c.algorithm.result.now c.as_bytes.result.now c.in-Some.ensures (cc) (cc) (sym c.if-not-is_code_hash.ensures) in (
       record {
-        algorithm = front-algorithm expected now token met;
-        no_extension = front-extension expected now token met;
-        claims = front-claims expected now token met;
+        rules = rules_held expected now token met;
         code_hash = hash;
       },
       c.in-Ok.ensures.verified.0 refl,
@@ -21,9 +20,7 @@ returns-in-Err c = λ expected now met.
     let token = token_of c.args.token.now in
     let hash = found_hash token c.args.code.now c.in-Some.told.now c.algorithm.result.now c.as_bytes.result.now c.in-Some.ensures (cc) (cc) (sym c.if-not-is_code_hash.ensures) in (
       record {
-        algorithm = front-algorithm expected now token met;
-        no_extension = front-extension expected now token met;
-        claims = front-claims expected now token met;
+        rules = rules_held expected now token met;
         code_hash = hash;
       },
       c.in-Err.ensures.refused,

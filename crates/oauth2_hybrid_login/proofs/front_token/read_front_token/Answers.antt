@@ -1,5 +1,5 @@
 use Rattle.oauth2_openid.specs.Seen.{token_of}
-use Rattle.oauth2_verified_login.specs.Signature.{check_of}
+use Rattle.oauth2_keys.specs.Signature.{check_of}
 use Rattle.oauth2_hybrid_login.proofs.FrontLaws.{JudgesFrontToken-unread, JudgesFrontToken-refused}
 use Rattle.oauth2_hybrid_login.proofs.front_token.read_front_token.Goals as goal
 

@@ -7,5 +7,5 @@ use Rattle.oauth2_verified_login.proofs.provider.VerifiedProvider.finish.Goals a
 
 pub returns : goal.returns
 returns g c =
-    subst (λ (p : Verifying). FinishesVerifiedLogin g.TR.FromJson.meaning g.TE.FromJson.meaning g.TR.FromJson.reading g.TE.FromJson.reading g.C.SyncHttpClient.is_ready g.C.SyncHttpClient.step g.TR.TokenResponse.access_token g.TR.HasIdToken.token_type_text g.TR.HasIdToken.id_token c.args.client.now c.args.login p (g.K.FnOnce.post c.args.clock tt) (query_form c.args.redirect.now) c.args.http_client.now c.verified_end.result c.finish-ended.new.http_client) c.self.view_is
-    (FinishesVerifiedLogin-from _ c.verified_end.result c.finish-ended.ensures c.verified_end.ensures.ended c.verified_end.ensures.verified c.verified_end.ensures.unverified)
+    subst (λ (p : Verifying). FinishesVerifiedLogin g.TR.FromJson.meaning g.TE.FromJson.meaning g.TR.FromJson.reading g.TE.FromJson.reading g.C.SyncHttpClient.is_ready g.C.SyncHttpClient.step g.TR.TokenResponse.access_token g.TR.HasIdToken.token_type_text g.TR.HasIdToken.id_token c.args.client.now c.args.login p (g.K.FnOnce.post c.args.clock tt) c.args.redirect.now (query_form c.args.redirect.now) c.args.http_client.now c.verified_end.result c.finish_without_signature-ended.new.http_client) c.self.view_is
+    (FinishesVerifiedLogin-from _ c.verified_end.result c.finish_without_signature-ended.ensures c.verified_end.ensures.ended c.verified_end.ensures.verified c.verified_end.ensures.unverified)
