@@ -24,7 +24,7 @@ same_url o a b is again = cc
 module _ {T E RE C : Type 0} (error_meaning : T → E) (error_reading : Data → Reading E) (step : C → HttpRequest → Result HttpResponse RE → C → Type 0) (login : PushingLogin) (secret : Option (List ℕ)) (url : Parts) (before after : C) (result : Result Parts (PushLoginError RE T)) where
   -- a push that was sent, and what follows from its outcome
   pub pushed_all : (r : PushedRequest) → r.client ≡ pushing_client login secret
-      → (auth_url : Addressed) × (login.client.auth_url ≡ Some auth_url) × (added_pairs auth_url.url url ≡ Some r.pairs) × (push_fault login.client.client_id (Some r.pairs) ≡ None)
+      → (auth_url : Addressed) × (login.client.auth_url ≡ Some auth_url) × (added_pairs auth_url.url url ≡ Some r.pairs) × (push_fault login.client.client_id login.endpoint auth_url.url (Some r.pairs) ≡ None)
       → (outcome : Result PushedAuthorization (RequestTokenError RE T))
       → AsksOnce (λ (pushed : PushedAuthorization). pushed) error_meaning step (pushed_answer_of r.client.reply_rule error_reading) (IsRequestOf (pushed_configuration r)) (serialize r.client.endpoint) before outcome after
       → (auth_url : Addressed) × (login.client.auth_url ≡ Some auth_url) × IsUrlOf login.client.client_id auth_url.url outcome result
@@ -43,13 +43,15 @@ module _ {T E RE C : Type 0} (error_meaning : T → E) (error_reading : Data →
   )
 
 -- a push that was refused, as the caller sees the client
-pub refused : {R : Type 0} (result : Result R PushFault) (seen login : PushingLogin) → seen ≡ login → (a : Addressed) → seen.client.auth_url ≡ Some a → (id : List ℕ) → id ≡ seen.client.client_id → (url : Parts)
-    → IfErr result (λ e. (e ≡ Memory) ⊎ (push_fault id (added_pairs a.url url) ≡ Some e))
-    → IfErr result (λ e. (x : Addressed) × (login.client.auth_url ≡ Some x) × ((e ≡ Memory) ⊎ (push_fault login.client.client_id (added_pairs x.url url) ≡ Some e)))
-refused (Ok r) seen login is a there id same url why = tt
-refused (Err e) seen login is a there id same url why =
-    subst (λ (l : PushingLogin). (x : Addressed) × (l.client.auth_url ≡ Some x) × ((e ≡ Memory) ⊎ (push_fault l.client.client_id (added_pairs x.url url) ≡ Some e))) is
-    (a, there, subst (λ (i : List ℕ). (e ≡ Memory) ⊎ (push_fault i (added_pairs a.url url) ≡ Some e)) same why)
+pub refused : {R : Type 0} (result : Result R PushFault) (seen login : PushingLogin) → seen ≡ login → (a : Addressed) → seen.client.auth_url ≡ Some a → (k : PushingClientView) → k.client_id ≡ seen.client.client_id → k.endpoint ≡ seen.endpoint → (url : Parts)
+    → IfErr result (λ e. (e ≡ Memory) ⊎ (push_fault k.client_id k.endpoint a.url (added_pairs a.url url) ≡ Some e))
+    → IfErr result (λ e. (x : Addressed) × (login.client.auth_url ≡ Some x) × ((e ≡ Memory) ⊎ (push_fault login.client.client_id login.endpoint x.url (added_pairs x.url url) ≡ Some e)))
+refused (Ok r) seen login is a there k whose place url why = tt
+refused (Err e) seen login is a there k whose place url why =
+    let of_id = subst (λ (i : List ℕ). (e ≡ Memory) ⊎ (push_fault i k.endpoint a.url (added_pairs a.url url) ≡ Some e)) whose why in
+    let of_both = subst (λ (p : Parts). (e ≡ Memory) ⊎ (push_fault seen.client.client_id p a.url (added_pairs a.url url) ≡ Some e)) place of_id in
+    subst (λ (l : PushingLogin). (x : Addressed) × (l.client.auth_url ≡ Some x) × ((e ≡ Memory) ⊎ (push_fault l.client.client_id l.endpoint x.url (added_pairs x.url url) ≡ Some e))) is
+    (a, there, of_both)
 
 -- what follows from an outcome, as the caller sees the client
 pub follows : {RE T : Type 0} (seen login : PushingLogin) → seen ≡ login → (a : Addressed) → seen.client.auth_url ≡ Some a → (id : List ℕ) → id ≡ seen.client.client_id

@@ -63,7 +63,7 @@ module _ {T RE C : Type 0} where
       → Result Parts (PushLoginError RE T) → C → Type 0
   PushesNothing login auth_url url before result after =
       (why : PushFault) × (result ≡ Err (error.Push why)) × (after ≡ before)
-      × ((why ≡ fault.Memory) ⊎ (push_fault login.client.client_id (added_pairs auth_url.url url) ≡ Some why))
+      × ((why ≡ fault.Memory) ⊎ (push_fault login.client.client_id login.endpoint auth_url.url (added_pairs auth_url.url url) ≡ Some why))
 
 module _ {T E RE C : Type 0} where
   -- exactly the parameters that the URL adds to its endpoint are pushed, once, and the result
@@ -80,7 +80,7 @@ module _ {T E RE C : Type 0} where
       → Type 0
   PushesAll error_meaning error_reading step login secret auth_url url before result after =
       (pairs : List Pair) × (added_pairs auth_url.url url ≡ Some pairs)
-      × (push_fault login.client.client_id (Some pairs) ≡ None)
+      × (push_fault login.client.client_id login.endpoint auth_url.url (Some pairs) ≡ None)
       × (outcome : Result PushedAuthorization (RequestTokenError RE T))
       × AsksOnce (λ (pushed : PushedAuthorization). pushed) error_meaning step (pushed_answer_of login.client.reply_rule error_reading)
       (IsRequestOf (pushed_configuration (push_of login secret pairs))) (serialize login.endpoint)

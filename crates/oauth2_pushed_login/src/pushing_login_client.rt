@@ -78,10 +78,11 @@ impl<TE, TR, TIR, RT, TRE> PushingLoginClient<TE, TR, TIR, RT, TRE> {
             r.client ≡ pushing_client self.now (option_copied client_secret.entry)) }
         ensures ok { IfOk result (λ r. (auth_url : Addressed) × (self.now.client.auth_url ≡ Some auth_url)
             × (added_pairs auth_url.url url.now ≡ Some r.pairs)
-            × (push_fault self.now.client.client_id (Some r.pairs) ≡ None)) }
+            × (push_fault self.now.client.client_id self.now.endpoint auth_url.url (Some r.pairs)
+            ≡ None)) }
         ensures err { IfErr result (λ e.
             (auth_url : Addressed) × (self.now.client.auth_url ≡ Some auth_url)
-            × ((e ≡ Memory) ⊎ (push_fault self.now.client.client_id
+            × ((e ≡ Memory) ⊎ (push_fault self.now.client.client_id self.now.endpoint auth_url.url
             (added_pairs auth_url.url url.now) ≡ Some e))) }
     {
         let client = PushingClient::new(

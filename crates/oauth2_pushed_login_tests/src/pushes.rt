@@ -5,9 +5,9 @@ use oauth2::basic::{
     BasicErrorResponse, BasicRevocationErrorResponse, BasicTokenIntrospectionResponse,
     BasicTokenResponse,
 };
-use oauth2::{ClientSecret, StandardRevocableToken};
+use oauth2::{ClientSecret, RedirectUrl, StandardRevocableToken};
 use oauth2_pushed_login::{LoginRoute, PushLoginError, PushPreference, PushingLoginClient};
-use oauth2_redirect::Login;
+use oauth2_redirect::{Login, LoginIssuer};
 use oauth2_tests_support::{NoReply, OneReply, check_display, check_equal, check_text, text, url};
 use rand_pcg::Pcg32;
 use std::alloc::Global;
@@ -88,7 +88,10 @@ fn check_pushed(alloc: Global, pushing: &Pushing, url: &Url) -> Result<(), Fail>
 // The authorization URL of a login.
 fn login_url(alloc: Global, pushing: &Pushing) -> Result<Url, Fail> {
     let mut rng = Pcg32::new(42, 54);
-    let (url, _) = Login::start(alloc, pushing.client(), &mut rng)?.url(alloc)?;
+    let issuer = LoginIssuer::InEachRedirect(text(alloc, "https://as.example.com")?);
+    let redirect_uri = RedirectUrl::parse(alloc, "https://client.example.org/cb")?;
+    let request = Login::start(alloc, pushing.client(), issuer, &mut rng)?;
+    let (url, _) = request.set_redirect_uri(&redirect_uri).url(alloc)?;
     Ok(url)
 }
 

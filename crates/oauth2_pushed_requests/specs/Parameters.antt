@@ -1,5 +1,5 @@
 -- The parameters of an authorization URL, and which of them can be pushed (RFC 9126, section 2.1).
-use Rattle.std.specs.Prelude.{ℕ, ◌&&◌, Bool, false, List, [], ◌∷◌, bytes_eq, codes, Option, None, Some, if◌then◌else◌}
+use Rattle.std.specs.Prelude.{ℕ, ◌&&◌, ◌||◌, Bool, false, List, [], ◌∷◌, bytes_eq, codes, Option, None, Some, if◌then◌else◌}
 use Rattle.std.specs.List.{list_all, list_any}
 use Rattle.std.specs.Str.{is_utf8}
 use Rattle.url.specs.Parts.{Parts}
@@ -7,7 +7,7 @@ use Rattle.oauth2_form.specs.Pairs.{Pair}
 use Rattle.oauth2_form.specs.Query.{query_form}
 use Rattle.oauth2_wire.specs.ByName.{bears, read_by_name}
 use Rattle.oauth2_pushed_requests.specs.declared.push_fault.PushFault.{PushFault}
-use Rattle.oauth2_pushed_requests.specs.declared.push_fault.PushFault.TheVariants.{OtherEndpoint, NotText, HasRequestUri, HasClientSecret, OtherClient}
+use Rattle.oauth2_pushed_requests.specs.declared.push_fault.PushFault.TheVariants.{OtherEndpoint, NotText, HasRequestUri, HasClientSecret, OtherClient, EndpointQuery}
 
 -- both pairs have the same name and the same value
 abbrev pub same_pair : Pair → Pair → Bool
@@ -47,9 +47,21 @@ names_fault id pairs =
     else (if has_name (codes "client_secret") pairs then Some HasClientSecret
     else (if is_value id (read_by_name (codes "client_id") pairs) then None else Some OtherClient))
 
--- why the client with this identifier cannot push the parameters of a URL: it is the URL of another
--- endpoint, a parameter is no text, or the name or value of one is refused
-abbrev pub push_fault : List ℕ → Option (List Pair) → Option PushFault
-push_fault id None = Some OtherEndpoint
-push_fault id (Some pairs) =
+-- why the client with this identifier cannot push the parameters that a URL adds to its endpoint's:
+-- it is the URL of another endpoint, a parameter is no text, or the name or value of one is refused
+abbrev pub added_fault : List ℕ → Option (List Pair) → Option PushFault
+added_fault id None = Some OtherEndpoint
+added_fault id (Some pairs) =
     if list_all is_text_pair pairs then names_fault id pairs else Some NotText
+
+-- the endpoint's own query has a parameter that a push sends to it, or the URL after a push (RFC
+-- 9126, 4): it would be sent twice, which RFC 6749, 3.1 and 3.2, forbids
+abbrev pub sends_twice : Parts → Bool
+sends_twice endpoint =
+    has_name (codes "client_id") (query_form endpoint) || has_name (codes "request_uri") (query_form endpoint)
+
+-- why the client with this identifier cannot push to the first endpoint the parameters that a URL
+-- adds to the second one, the authorization endpoint
+abbrev pub push_fault : List ℕ → Parts → Parts → Option (List Pair) → Option PushFault
+push_fault id endpoint auth_url added =
+    if sends_twice endpoint || sends_twice auth_url then Some EndpointQuery else added_fault id added

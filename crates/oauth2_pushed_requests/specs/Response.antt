@@ -1,7 +1,8 @@
 -- The response to a pushed authorization request (RFC 9126, section 2.2).
-use Rattle.std.specs.Prelude.{ℕ, List, Some, Ok, codes}
+use Rattle.std.specs.Prelude.{ℕ, ◌==◌, List, [], bytes_eq, Some, Ok, Err, codes, if◌then◌else◌}
 use Rattle.serde_json.specs.Data.{Data, Members, no_members, number, unsigned, string, object}
 use Rattle.oauth2_json.specs.Reading.{Reading, read_then}
+use Rattle.oauth2_json.specs.declared.read.ParseCause.TheVariants as cause
 use Rattle.oauth2_json.specs.Writing.{Writing}
 use Rattle.oauth2_json.specs.Members.{members_of_object, needed_member}
 use Rattle.oauth2_json.specs.Puts.{Row, put_all}
@@ -32,9 +33,17 @@ pushed_table =
 abbrev pub pushed_authorization_in : Members → Reading PushedAuthorization
 pushed_authorization_in ms = table_reading pushed_table (Ok pushed_authorization) ms
 
+-- a response that names a request and can be used for some time: its text is not empty, and its
+-- lifetime is a positive number (RFC 9126, 2.2)
+abbrev pub whole_response : PushedAuthorization → Reading PushedAuthorization
+whole_response r =
+    if bytes_eq r.request_uri [] then Err (record { member = codes "request_uri"; cause = cause.Missing })
+    else (if r.expires_in == 0 then Err (record { member = codes "expires_in"; cause = cause.OutOfRange })
+    else Ok r)
+
 -- reads a response from a JSON object
 abbrev pub pushed_reading : Data → Reading PushedAuthorization
-pushed_reading d = read_then (members_of_object d) pushed_authorization_in
+pushed_reading d = read_then (read_then (members_of_object d) pushed_authorization_in) whole_response
 
 -- the two members that are written
 abbrev pub pushed_rows : PushedAuthorization → List Row

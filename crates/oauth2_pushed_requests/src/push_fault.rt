@@ -17,6 +17,10 @@ pub enum PushFault {
     HasClientSecret,
     /// The URL has no parameter `client_id`, or more than one, or it is that of another client.
     OtherClient,
+    /// The query of one of the two endpoints, that of pushes or the authorization endpoint, has a
+    /// parameter `client_id` or `request_uri`, which the request itself sends (RFC 6749, sections
+    /// 3.1 and 3.2: none is sent twice).
+    EndpointQuery,
     /// Memory ran out.
     Memory,
 }
@@ -36,6 +40,7 @@ impl fmt::Display for PushFault {
             PushFault::HasRequestUri => "URL has the parameter `request_uri`",
             PushFault::HasClientSecret => "URL has the parameter `client_secret`",
             PushFault::OtherClient => "URL has not one `client_id` that is this client's",
+            PushFault::EndpointQuery => "URL of an endpoint has `client_id` or `request_uri`",
             PushFault::Memory => "Out of memory",
         })
     }

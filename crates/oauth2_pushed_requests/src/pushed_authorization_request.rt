@@ -60,8 +60,9 @@ impl<'a, TE> Model for PushedAuthorizationRequest<'a, TE> {
 
 impl<'a, TE> PushedAuthorizationRequest<'a, TE> {
     /// A request that pushes the parameters of `url`, an authorization URL that was made from
-    /// `auth_url`. What `auth_url` has as its own query is not pushed. `TE` is what an error
-    /// response is read as.
+    /// `auth_url`. What `auth_url` has as its own query is not pushed; it must not have `client_id`
+    /// or `request_uri`, nor must that of the client's endpoint. `TE` is what an error response is
+    /// read as.
     pub fn new(
         alloc: Global,
         client: PushingClient<'a>,
@@ -71,11 +72,14 @@ impl<'a, TE> PushedAuthorizationRequest<'a, TE> {
         ensures client { IfOk result (λ r. r.client ≡ client.entry) }
         ensures pairs { IfOk result (λ r. added_pairs auth_url.now.url url.now ≡ Some r.pairs) }
         ensures ok { let added = added_pairs auth_url.now.url url.now in
-            IfOk result (λ _. push_fault client.entry.client_id added ≡ None) }
+            let fault = push_fault client.entry.client_id client.entry.endpoint auth_url.now.url added in
+            IfOk result (λ _. fault ≡ None) }
         ensures err { let added = added_pairs auth_url.now.url url.now in
-            IfErr result (λ e. (e ≡ Memory) ⊎ (push_fault client.entry.client_id added ≡ Some e)) }
+            let fault = push_fault client.entry.client_id client.entry.endpoint auth_url.now.url added in
+            IfErr result (λ e. (e ≡ Memory) ⊎ (fault ≡ Some e)) }
     {
-        match pushed_pairs(alloc, client.client_id.as_str(), auth_url.url(), url) {
+        let id = client.client_id.as_str();
+        match pushed_pairs(alloc, id, client.endpoint, auth_url.url(), url) {
             Ok(pairs) => Ok(PushedAuthorizationRequest {
                 client,
                 pairs,

@@ -1,23 +1,26 @@
 //! The response to a pushed authorization request (RFC 9126, section 2.2).
 
-ghost use Rattle.std.specs.Prelude.{◌≡◌, ◌↔◌, ◌*◌, codes, Err, IfErr, IfOk, Ok, Some};
+ghost use Rattle.std.specs.Prelude.{◌≡◌, ◌↔◌, ◌*◌, codes, string_bytes, Err, IfErr, IfOk, Ok, Some};
 ghost use Rattle.std.specs.Duration.{as_nanos};
 ghost use Rattle.std.specs.Fmt.{DisplaysOnOk, WritesStyledOnOk};
 ghost use Rattle.serde_json.specs.View.{view};
 ghost use Rattle.url.specs.Parser.{IsOutOfRoom};
 ghost use Rattle.url.specs.Setters.{append_query_pairs};
 ghost use Rattle.oauth2_form.specs.Query.{ExtendsQuery};
+ghost use Rattle.oauth2_json.specs.Reading.{ReadsAs};
 ghost use Rattle.oauth2_json.specs.Writing.{WritesAs};
 ghost use Rattle.oauth2_requests.specs.Authorization.{IsTooLong};
 ghost use Rattle.oauth2_pushed_requests.specs.Pushed.{reference_pairs};
 ghost use Rattle.oauth2_pushed_requests.specs.Response.{
   PushedAuthorization,
+  pushed_authorization,
   pushed_reading,
   pushed_writing,
+  whole_response,
 };
 
 use crate::reference_url::reference_url;
-use oauth2_json::{FromJson, ReadError, ToJson, WriteError};
+use oauth2_json::{FromJson, ParseCause, ReadError, ToJson, WriteError};
 use oauth2_member_rows::{Member, Needed, NeededNumber, object_of, read_object};
 use oauth2_types::ClientId;
 use oauth2_urls::AuthUrl;
@@ -50,7 +53,7 @@ impl Drop for PushedAuthorizationResponse {
 }
 
 impl Model for PushedAuthorizationResponse {
-    ghost use Rattle.std.specs.Prelude.{string_bytes};
+    ghost use Rattle.std.specs.Prelude.{◌≡◌, ◌==◌, [], bytes_eq, false, string_bytes};
     ghost use Rattle.oauth2_pushed_requests.specs.Response.{
       PushedAuthorization,
       pushed_authorization,
@@ -59,6 +62,9 @@ impl Model for PushedAuthorizationResponse {
     ghost Value = { PushedAuthorization };
 
     ghost view = { λ r. pushed_authorization (string_bytes r.request_uri) r.expires_in };
+
+    ghost invariant = { λ r. (bytes_eq (string_bytes r.request_uri) [] ≡ false)
+        × ((r.expires_in == 0) ≡ false) };
 }
 
 impl PushedAuthorizationResponse {
@@ -102,6 +108,27 @@ impl PushedAuthorizationResponse {
     }
 }
 
+// The response of these two values, if the text is not empty and the lifetime not zero.
+fn whole_response(
+    alloc: Global,
+    request_uri: String,
+    expires_in: u64,
+) -> Result<PushedAuthorizationResponse, ReadError>
+    ensures { ReadsAs (λ r. r) result
+        (whole_response (pushed_authorization (string_bytes request_uri) expires_in)) }
+{
+    if request_uri.is_empty() {
+        return Err(ReadError::at(alloc, "request_uri", ParseCause::Missing));
+    }
+    if expires_in == 0 {
+        return Err(ReadError::at(alloc, "expires_in", ParseCause::OutOfRange));
+    }
+    Ok(PushedAuthorizationResponse {
+        request_uri,
+        expires_in,
+    })
+}
+
 impl FromJson for PushedAuthorizationResponse {
     ghost Meaning = { PushedAuthorization };
 
@@ -111,10 +138,7 @@ impl FromJson for PushedAuthorizationResponse {
 
     fn from_json(alloc: Global, value: Value) -> Result<PushedAuthorizationResponse, ReadError> {
         let (request_uri, (expires_in, ())) = read_object(&ROWS, alloc, value)?;
-        Ok(PushedAuthorizationResponse {
-            request_uri,
-            expires_in,
-        })
+        whole_response(alloc, request_uri, expires_in)
     }
 }
 

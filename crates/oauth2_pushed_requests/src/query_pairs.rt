@@ -22,6 +22,7 @@ ghost use Rattle.oauth2_form.specs.Pairs.{form};
 ghost use Rattle.oauth2_form.specs.Query.{query_form};
 ghost use Rattle.oauth2_wire.specs.ByName.{bears, read_by_name};
 ghost use Rattle.oauth2_pushed_requests.specs.Parameters.{
+  added_fault,
   added_pairs,
   has_name,
   is_text_pair,
@@ -30,6 +31,7 @@ ghost use Rattle.oauth2_pushed_requests.specs.Parameters.{
   pairs_after,
   push_fault,
   same_pair,
+  sends_twice,
 };
 ghost use Rattle.oauth2_pushed_requests.specs.private.Read.{pair_bytes, pair_texts};
 ghost use Rattle.oauth2_pushed_requests.specs.declared.push_fault.PushFault.TheVariants.{
@@ -106,7 +108,8 @@ fn pairs_after<'a>(
 // A copy of the bytes as a text.
 fn text_of(alloc: Global, bytes: &[u8]) -> Result<String, PushFault>
     ensures ok { IfOk result (λ text. (string_bytes text ≡ bytes.now) × (is_utf8 bytes.now ≡ true)) }
-    ensures err { IfErr result (λ e. (e ≡ Memory) ⊎ ((e ≡ NotText) × (is_utf8 bytes.now ≡ false))) }
+    ensures err { IfErr result (λ e. ((is_utf8 bytes.now ≡ true) × (e ≡ Memory))
+        ⊎ ((is_utf8 bytes.now ≡ false) × (e ≡ NotText))) }
 {
     match str::from_utf8(bytes) {
         Ok(text) => Ok(String::from_str(alloc, text)?),
@@ -207,10 +210,10 @@ fn checked_texts(
     added: &[(Vec<u8>, Vec<u8>)],
 ) -> Result<Vec<(String, String)>, PushFault>
     ensures texts { IfOk result (λ texts. map pair_texts texts.items ≡ map pair_bytes added.now) }
-    ensures ok { IfOk result (λ _. push_fault id.now (Some (map pair_bytes added.now)) ≡ None) }
+    ensures ok { IfOk result (λ _. added_fault id.now (Some (map pair_bytes added.now)) ≡ None) }
     ensures names { IfOk result (λ texts. names_fault id.now (map pair_texts texts.items) ≡ None) }
     ensures err { IfErr result (λ e. (e ≡ Memory)
-        ⊎ (push_fault id.now (Some (map pair_bytes added.now)) ≡ Some e)) }
+        ⊎ (added_fault id.now (Some (map pair_bytes added.now)) ≡ Some e)) }
 {
     let texts = texts_of(alloc, added)?;
     match names_fault(id, texts.as_slice()) {
@@ -219,25 +222,74 @@ fn checked_texts(
     }
 }
 
+fn is_called(pair: &(Vec<u8>, Vec<u8>), name: &str) -> bool
+    ensures { result ≡ bears name.now (pair_bytes pair.now) }
+{
+    pair.0.as_slice() == name.as_bytes()
+}
+
+// Whether one of these decoded parameters has this name.
+fn bears_name(pairs: &[(Vec<u8>, Vec<u8>)], name: &str) -> bool
+    ensures { result ≡ has_name name.now (map pair_bytes pairs.now) }
+{
+    for pair in pairs {
+        if is_called(pair, name) {
+            return true;
+        }
+    }
+    false
+}
+
+// Whether this endpoint's own query has a parameter that is sent to it beside.
+fn sends_twice(alloc: Global, endpoint: &Url) -> Result<bool, AllocError>
+    ensures { IfOk result (λ twice. twice ≡ sends_twice endpoint.now) }
+{
+    let own = read_url(alloc, endpoint)?;
+    Ok(bears_name(own.as_slice(), "client_id") || bears_name(own.as_slice(), "request_uri"))
+}
+
 // The parameters that `url` adds to the query of its endpoint, if the client can push them.
-pub(crate) fn pushed_pairs(
+fn texts_added(
     alloc: Global,
     id: &str,
-    endpoint: &Url,
+    auth_url: &Url,
     url: &Url,
 ) -> Result<Vec<(String, String)>, PushFault>
     ensures added { IfOk result (λ texts.
-        added_pairs endpoint.now url.now ≡ Some (map pair_texts texts.items)) }
+        added_pairs auth_url.now url.now ≡ Some (map pair_texts texts.items)) }
     ensures ok { IfOk result (λ _.
-        push_fault id.now (added_pairs endpoint.now url.now) ≡ None) }
+        added_fault id.now (added_pairs auth_url.now url.now) ≡ None) }
     ensures names { IfOk result (λ texts. names_fault id.now (map pair_texts texts.items) ≡ None) }
     ensures err { IfErr result (λ e. (e ≡ Memory)
-        ⊎ (push_fault id.now (added_pairs endpoint.now url.now) ≡ Some e)) }
+        ⊎ (added_fault id.now (added_pairs auth_url.now url.now) ≡ Some e)) }
 {
-    let own = read_url(alloc, endpoint)?;
+    let own = read_url(alloc, auth_url)?;
     let all = read_url(alloc, url)?;
     match pairs_after(own.as_slice(), all.as_slice()) {
         Some(added) => checked_texts(alloc, id, added),
         None => Err(PushFault::OtherEndpoint),
     }
+}
+
+// The parameters that `url` adds to the query of the authorization endpoint, if the client can push
+// them to `endpoint`.
+pub(crate) fn pushed_pairs(
+    alloc: Global,
+    id: &str,
+    endpoint: &Url,
+    auth_url: &Url,
+    url: &Url,
+) -> Result<Vec<(String, String)>, PushFault>
+    ensures added { IfOk result (λ texts.
+        added_pairs auth_url.now url.now ≡ Some (map pair_texts texts.items)) }
+    ensures ok { IfOk result (λ _.
+        push_fault id.now endpoint.now auth_url.now (added_pairs auth_url.now url.now) ≡ None) }
+    ensures names { IfOk result (λ texts. names_fault id.now (map pair_texts texts.items) ≡ None) }
+    ensures err { IfErr result (λ e. (e ≡ Memory)
+        ⊎ (push_fault id.now endpoint.now auth_url.now (added_pairs auth_url.now url.now) ≡ Some e)) }
+{
+    if sends_twice(alloc, endpoint)? || sends_twice(alloc, auth_url)? {
+        return Err(PushFault::EndpointQuery);
+    }
+    texts_added(alloc, id, auth_url, url)
 }

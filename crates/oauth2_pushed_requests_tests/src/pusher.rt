@@ -66,10 +66,25 @@ impl Pusher {
         secret: Option<&str>,
         query: &str,
     ) -> Result<Pusher, Fail> {
-        let id = ClientId::new(text(alloc, "s6BhdRkqt3")?);
-        let endpoint = url(alloc, "https://as.example.com/as/par")?;
-        let auth_url = auth_url(alloc, query)?;
         let secret = client_secret(alloc, secret)?;
+        Pusher::at(alloc, auth_type, secret, "https://as.example.com/as/par", query)
+    }
+
+    /// The public client of the example with this endpoint for pushes.
+    pub(crate) fn public_at(alloc: Global, endpoint: &str, query: &str) -> Result<Pusher, Fail> {
+        Pusher::at(alloc, AuthType::BasicAuth, None, endpoint, query)
+    }
+
+    fn at(
+        alloc: Global,
+        auth_type: AuthType,
+        secret: Option<ClientSecret>,
+        endpoint: &str,
+        query: &str,
+    ) -> Result<Pusher, Fail> {
+        let id = ClientId::new(text(alloc, "s6BhdRkqt3")?);
+        let endpoint = url(alloc, endpoint)?;
+        let auth_url = auth_url(alloc, query)?;
         Ok(Pusher {
             auth_type,
             id,

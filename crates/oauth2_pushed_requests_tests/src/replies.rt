@@ -155,6 +155,17 @@ fn faults(rt: HostRuntime) -> Result<(), Fail> {
             "expires_in",
             ParseCause::OutOfRange,
         ),
+        (
+            "{\"request_uri\":\"\",\"expires_in\":60}",
+            "request_uri",
+            ParseCause::Missing,
+        ),
+        (
+            "{\"request_uri\":\"u\",\"expires_in\":0}",
+            "expires_in",
+            ParseCause::OutOfRange,
+        ),
+        ("{\"request_uri\":\"\"}", "expires_in", ParseCause::Missing),
     ] {
         check_fault::<PushedAuthorizationResponse>(rt.alloc(), body, member, cause)?;
     }

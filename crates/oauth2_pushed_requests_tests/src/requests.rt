@@ -121,3 +121,21 @@ fn refusals(rt: HostRuntime) -> Result<(), Fail> {
     }
     Ok(())
 }
+
+// Neither endpoint's own query may have what is sent to it beside (RFC 6749, sections 3.1 and 3.2).
+#[test]
+fn queries_that_send_twice(rt: HostRuntime) -> Result<(), Fail> {
+    let alloc = rt.alloc();
+    for (endpoint, query) in [
+        ("https://as.example.com/as/par?client_id=x", ""),
+        ("https://as.example.com/as/par?a=b&request_uri", ""),
+        ("https://as.example.com/as/par?%63lient_id=", ""),
+        ("https://as.example.com/as/par", "?client_id=s6BhdRkqt3"),
+        ("https://as.example.com/as/par", "?a=b&request_uri=u"),
+    ] {
+        let pusher = Pusher::public_at(alloc, endpoint, query)?;
+        check_refused(alloc, &pusher, "client_id=s6BhdRkqt3", PushFault::EndpointQuery)?;
+    }
+    let pusher = Pusher::public_at(alloc, "https://as.example.com/as/par?a=b", "")?;
+    pusher.check_body(alloc, "client_id=s6BhdRkqt3", "client_id=s6BhdRkqt3")
+}
