@@ -194,7 +194,7 @@ fn assert_run(rt: &(impl Abort + AllocGlobal), client: &TokenClient, run: Run<'_
         margin: duration(run.margin),
         default_lifetime: duration((0, 0)),
     };
-    let mut keeper: BasicTokenKeeper<'_> = TokenKeeper::new(client, None, times);
+    let mut keeper: BasicTokenKeeper<'_> = TokenKeeper::with_times(client, None, times);
     let mut http_client = Scripted::new(rt.alloc(), run.replies);
     for call in run.calls.iter() {
         assert_call(rt, &mut keeper, &mut http_client, *call);
@@ -207,7 +207,7 @@ fn assert_bearer(rt: &(impl Abort + AllocGlobal), client: &TokenClient) {
         margin: duration((0, 0)),
         default_lifetime: duration((60, 0)),
     };
-    let mut keeper: BasicTokenKeeper<'_> = TokenKeeper::new(client, None, times);
+    let mut keeper: BasicTokenKeeper<'_> = TokenKeeper::with_times(client, None, times);
     let mut http_client = Scripted::new(rt.alloc(), &[NEITHER]);
     assert_that(rt, keeper.get().is_none(), "no token at first");
     for second in [0, 60] {

@@ -1,4 +1,5 @@
 pub mod AskedWaits
+pub mod LendingRuns
 pub mod Patience
 pub mod Renewals
 pub mod RunLaws

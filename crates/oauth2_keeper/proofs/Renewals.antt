@@ -1,5 +1,5 @@
 -- The request of a keeper is that of its configuration.
-use Rattle.std.proofs.Common.{rules, ◌≡◌, ℕ, List, Option, Some, None, Result, Ok, Err, subst, sym, refl, inl, inr}
+use Rattle.std.proofs.Common.{rules, ◌≡◌, ℕ, List, Option, Some, None, Result, Ok, Err, subst, sym, refl}
 use Rattle.std.specs.Prelude.{ℤ, false, IsSomeAnd, option_map}
 use Rattle.url.specs.Parts.{serialize}
 use Rattle.oauth2_wire.specs.declared.content_type.ReplyRule.{ReplyRule}
@@ -51,10 +51,10 @@ module _ {D T RE C : Type 0} (asks : ReplyRule → (List ℕ → RequestView →
   pub settled : (answer : Result D (RequestTokenError RE T)) → Renews asks keeper before answer after → (result : Result Unit (RequestTokenError RE T)) (kept : Keeper)
       → Settles told keeper now answer result kept → KeeperCalls asks told keeper now before result after kept
   settled (Ok reply) renews (Ok done) kept is = (accepted (told reply), (stale, refl, (reply, refl, renews)), is)
-  settled (Ok reply) renews (Err error) kept is = (failed, (stale, (error, refl, inr (is.0, (reply, renews)))), is.1)
+  settled (Ok reply) renews (Err error) kept is = absurd is
   settled (Err fault) renews (Ok done) kept is = absurd is
   settled (Err fault) renews (Err error) kept is =
-      (failed, (stale, (error, refl, inl (subst (λ e. Renews asks keeper before (Err e) after) (sym is.0) renews))), is.1)
+      (failed, (stale, (error, refl, subst (λ e. Renews asks keeper before (Err e) after) (sym is.0) renews)), is.1)
 
 -- a token that was got is the kept one
 pub kept_text : (kept : Option AcceptedToken) (text : List ℕ) → option_map (λ token. token.access_token) kept ≡ Some text → IsSomeAnd kept (λ token. text ≡ token.access_token)

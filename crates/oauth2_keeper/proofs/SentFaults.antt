@@ -1,5 +1,5 @@
 -- A fault counts exactly if its request reached the client.
-use Rattle.std.proofs.Common.{rules, ◌≡◌, ℕ, List, Option, None, Some, Result, Ok, Err, String, Global, subst, sym, ap, refl, inl, inr}
+use Rattle.std.proofs.Common.{rules, ◌≡◌, ℕ, List, Option, None, Some, Result, Ok, Err, String, Global, subst, sym, ap, refl}
 use Rattle.std.specs.Prelude.{Bool, true, false, not, ◌==◌, length, bytes_eq, string_bytes, if◌then◌else◌}
 use Rattle.oauth2_wire.specs.ContentType.{is_json_type}
 use Rattle.oauth2_wire.specs.declared.content_type.ReplyRule.{ReplyRule}
@@ -9,7 +9,6 @@ use Rattle.oauth2_wire.specs.declared.request.RequestFault.TheVariants as fault
 use Rattle.oauth2_wire.specs.Once.{AsksOnce, not_http_text}
 use Rattle.oauth2_wire.specs.Request.{HttpRequest, RequestView, IsRequestOf}
 use Rattle.oauth2_wire.specs.Reply.{HttpResponse, Answer, accepted, refused, unread, other, ReplyView, reply_of, ShowsFault, read_answer, body_answer, success_answer, answer_of}
-use Rattle.oauth2_wire.proofs.OnceLemmas.{AsksOnce-accepted}
 use Rattle.oauth2_keeper.specs.Patience.{counts, IsCalledIf, EachSentFaultCounts}
 
 -- the answer is not what is said of an endpoint that is no HTTP target
@@ -77,13 +76,6 @@ module _ {D A T E RE C : Type 0} (meaning : D → A) (error_meaning : T → E) (
     failed differs (token.Request error) (Err kind, is, target, unsent) = absurd unsent
     failed differs (token.Parse fault body) (Err kind, is, target, unsent) = absurd unsent
 
-    -- a request whose reply was accepted was sent
-    pub accepted_was_sent : (reply : D) → AsksOnce {T = T} meaning error_meaning step says IsRequest url before (Ok reply) after → IsCalledIf step true before after
-    accepted_was_sent reply asked =
-        let sent = AsksOnce-accepted meaning error_meaning step says IsRequest url before after reply asked in (sent.0, Ok sent.2, sent.3)
-
   pub sent_counts : (reading error_reading : _) → EachSentFaultCounts (λ rule. AsksOnce meaning error_meaning step (answer_of rule reading error_reading)) step
-  sent_counts reading error_reading keeper before after error (inl renews) =
+  sent_counts reading error_reading keeper before after error renews =
       failed (answer_of keeper.client.reply_rule reading error_reading) (IsRequestOf _) _ before after (of_reply A E keeper.client.reply_rule reading error_reading) error renews.2
-  sent_counts reading error_reading keeper before after error (inr (is, (reply, renews))) =
-      subst (λ e. IsCalledIf step (counts e) before after) (sym is) (accepted_was_sent (answer_of keeper.client.reply_rule reading error_reading) (IsRequestOf _) _ before after reply renews.2)

@@ -7,7 +7,6 @@ use Rattle.oauth2_urls.specs.Addressed.{Addressed}
 use Rattle.oauth2_wire.specs.declared.content_type.ReplyRule.{ReplyRule}
 use Rattle.oauth2_wire.specs.declared.error.RequestTokenError.{RequestTokenError}
 use Rattle.oauth2_wire.specs.Request.{RequestView, IsRequestOf}
-use Rattle.oauth2_wire.specs.declared.error.RequestTokenError.TheVariants.{Memory}
 use Rattle.oauth2_form.specs.Pairs.{Pair}
 use Rattle.oauth2_wire.specs.declared.texts.ParamText.{ParamText}
 use Rattle.oauth2_wire.specs.Texts.{param_pair}
@@ -61,6 +60,20 @@ is_good keeper now = is_good_if_any keeper.margin now keeper.token
 -- the last moment at which a token is good, in nanoseconds since 1970
 abbrev pub good_until_of : ℕ → AcceptedToken → ℤ
 good_until_of margin token = (token.accepted_at +ℤ pos token.lifetime) -ℤ pos margin
+
+-- a new keeper: it has no token, and adds nothing to its requests; the margin and the lifetime of a
+-- token whose reply has none are in nanoseconds
+abbrev pub new_keeper : Settings → Option (List ℕ) → ℕ → ℕ → Keeper
+new_keeper client refresh_token margin default_lifetime = record {
+  client = client;
+  margin = margin;
+  default_lifetime = default_lifetime;
+  scope = None;
+  refresh_scope = None;
+  extra_params = [];
+  token = None;
+  refresh_token = refresh_token;
+}
 
 -- a keeper with a token that was stored, and with the refresh token that was stored with it
 abbrev pub starting_from : Keeper → AcceptedToken → Option (List ℕ) → Keeper
@@ -133,11 +146,6 @@ module _ {D T RE C : Type 0} (asks : ReplyRule → (List ℕ → RequestView →
       × asks keeper.client.reply_rule (IsRequestOf (renewal keeper)) (serialize endpoint.url) before
       answer after
 
-  -- the error is the request's, or memory ran out while its reply was copied
-  abbrev pub FailsWith : Keeper → C → RequestTokenError RE T → C → Type 0
-  FailsWith keeper before error after =
-      Renews keeper before (Err error) after ⊎ ((error ≡ Memory true) × ((reply : D) × Renews keeper before (Ok reply) after))
-
   module _ (told : D → Given) where
     -- a call at `now` with this outcome: what it does to the HTTP client, and its result
     abbrev pub IsOutcome : Keeper → ℤ → C → Result Unit (RequestTokenError RE T) → C → Outcome
@@ -147,7 +155,7 @@ module _ {D T RE C : Type 0} (asks : ReplyRule → (List ℕ → RequestView →
     IsOutcome keeper now before result after (accepted given) =
         (is_good keeper now ≡ false) × (result ≡ Ok tt) × ((reply : D) × (given ≡ told reply) × Renews keeper before (Ok reply) after)
     IsOutcome keeper now before result after failed =
-        (is_good keeper now ≡ false) × ((error : RequestTokenError RE T) × (result ≡ Err error) × FailsWith keeper before error after)
+        (is_good keeper now ≡ false) × ((error : RequestTokenError RE T) × (result ≡ Err error) × Renews keeper before (Err error) after)
 
     -- a call at `now`: its result, and what is kept before and after it
     abbrev pub KeeperCalls : Keeper → ℤ → C → Result Unit (RequestTokenError RE T) → C → Keeper
@@ -163,6 +171,15 @@ module _ {D T RE C : Type 0} (asks : ReplyRule → (List ℕ → RequestView →
         × IsSomeAnd kept.token (λ token. Gives token.access_token value)
     Answers Gives keeper now before (Err error) after kept =
         KeeperCalls keeper now before (Err error) after kept × (kept ≡ keeper)
+
+    -- the same, where the value is lent as an `Option` and the error is put into a slot
+    abbrev pub AnswersInSlot : {A : Type 0} → (List ℕ → A → Type 0) → Keeper → ℤ → C → Option A
+        → Option (RequestTokenError RE T) → C → Keeper → Type 0
+    AnswersInSlot Gives keeper now before (Some value) slot after kept =
+        Answers Gives keeper now before (Ok value) after kept × (slot ≡ None)
+    AnswersInSlot Gives keeper now before None slot after kept =
+        IsSomeAnd slot (λ error. KeeperCalls keeper now before (Err error) after kept)
+        × (kept ≡ keeper)
 
 -- what a keeper uses of a token response, by the functions that read its parts
 abbrev pub given_by : {D : Type 0} → (D → List ℕ) → (D → Option ℕ) → (D → Option (List ℕ)) → D

@@ -10,7 +10,7 @@ use Rattle.oauth2_wire.specs.Request.{HttpRequest, RequestView}
 use Rattle.oauth2_wire.specs.Reply.{HttpResponse}
 use Rattle.oauth2_keeper.specs.declared.patient_keeper.PatientError.{PatientError}
 use Rattle.oauth2_keeper.specs.declared.patient_keeper.PatientError.TheVariants.{Request, Waits}
-use Rattle.oauth2_keeper.specs.Keeper.{Keeper, Given, is_good, is_good_if_any, KeeperCalls, FailsWith}
+use Rattle.oauth2_keeper.specs.Keeper.{Keeper, Given, is_good, is_good_if_any, KeeperCalls, Renews}
 use Rattle.oauth2_keeper.specs.Runs.{Call, Runs}
 
 -- a keeper; how long it waits if the server asks for no longer wait, and the greatest wait that a
@@ -222,5 +222,5 @@ module _ {D T RE C : Type 0} (asks : ReplyRule → (List ℕ → RequestView →
   -- an error of a keeper begins a wait exactly if the HTTP client was called
   abbrev pub EachSentFaultCounts : Type 0
   EachSentFaultCounts =
-      (keeper : Keeper) (before after : C) (error : RequestTokenError RE T) → FailsWith asks keeper before error after
+      (keeper : Keeper) (before after : C) (error : RequestTokenError RE T) → Renews asks keeper before (Err error) after
       → IsCalledIf step (counts error) before after

@@ -13,6 +13,7 @@ ghost use Rattle.oauth2_keeper.specs.Patience.{
   EachWaitIsBounded,
   EachSentFaultCounts,
 };
+ghost use Rattle.oauth2_keeper.specs.Lends.{EachLendingRunIsARun};
 ghost use Rattle.oauth2_keeper.specs.Runs.{EachRunKeepsTheLast, EachRunFollowsFromItsReplies};
 
 use oauth2::{ErrorResponse, SyncHttpClient, TokenResponse};
@@ -32,6 +33,16 @@ pub fn each_run_keeps_the_last<C: SyncHttpClient, TE: ErrorResponse, TR: TokenRe
 #[tactic(auto, using(crate::proofs::RunLaws::is_its_replies))]
 pub fn each_run_follows_from_its_replies<C: SyncHttpClient, TE: ErrorResponse, TR: TokenResponse>()
     ensures { EachRunFollowsFromItsReplies
+        (λ rule. AsksOnce TR.meaning TE.meaning C.step (answer_of rule TR.reading TE.reading))
+        (given_by TR.access_token TR.lifetime TR.refresh_token) }
+{}
+
+/// Calls of `lend_token` and of `token` are calls of a keeper at the same times, in order, so the
+/// laws of a keeper hold for them. For a call of `token`, what is kept after it is what its contract
+/// says can be.
+#[tactic(auto, using(crate::proofs::LendingRuns::is_a_run))]
+pub fn each_lending_run_is_a_run<C: SyncHttpClient, TE: ErrorResponse, TR: TokenResponse>()
+    ensures { EachLendingRunIsARun
         (λ rule. AsksOnce TR.meaning TE.meaning C.step (answer_of rule TR.reading TE.reading))
         (given_by TR.access_token TR.lifetime TR.refresh_token) }
 {}

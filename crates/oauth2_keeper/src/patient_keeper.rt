@@ -87,6 +87,7 @@ where
 /// Contracts see it as a `Patient`.
 pub struct PatientKeeper<'a, TE, TR, TIR, RT, TRE, A, D, I, R>
 where
+    TR: TokenResponse + Drop,
     A: EndpointState,
     D: EndpointState,
     I: EndpointState,
@@ -104,6 +105,7 @@ where
 impl<'a, TE, TR, TIR, RT, TRE, A, D, I, R> Drop
     for PatientKeeper<'a, TE, TR, TIR, RT, TRE, A, D, I, R>
 where
+    TR: TokenResponse + Drop,
     A: EndpointState,
     D: EndpointState,
     I: EndpointState,
@@ -145,6 +147,7 @@ pub type BasicPatientKeeper<
 impl<'a, TE, TR, TIR, RT, TRE, A, D, I, R> Model
     for PatientKeeper<'a, TE, TR, TIR, RT, TRE, A, D, I, R>
 where
+    TR: TokenResponse + Drop,
     A: EndpointState,
     D: EndpointState,
     I: EndpointState,
@@ -168,6 +171,7 @@ where
 
 impl<'a, TE, TR, TIR, RT, TRE, A, D, I, R> TokenKeeper<'a, TE, TR, TIR, RT, TRE, A, D, I, R>
 where
+    TR: TokenResponse + Drop,
     A: EndpointState,
     D: EndpointState,
     I: EndpointState,
@@ -201,6 +205,7 @@ where
 
 impl<'a, TE, TR, TIR, RT, TRE, A, D, I, R> PatientKeeper<'a, TE, TR, TIR, RT, TRE, A, D, I, R>
 where
+    TR: TokenResponse + Drop,
     A: EndpointState,
     D: EndpointState,
     I: EndpointState,

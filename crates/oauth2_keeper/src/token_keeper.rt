@@ -33,16 +33,17 @@ ghost use Rattle.oauth2_keeper.specs.Keeper.{
   is_good,
   is_good_if_any,
   good_until_of,
+  new_keeper,
   starting_from,
-  accept,
   Renews,
   KeeperCalls,
   Answers,
 };
-ghost use Rattle.oauth2_keeper.specs.private.Settled.{Settles, RenewsAndSettles};
+ghost use Rattle.oauth2_keeper.specs.private.Settled.{RenewsAndSettles};
+ghost use Rattle.oauth2_keeper.specs.Lends.{LendsToken};
+ghost use Rattle.std.specs.Borrow.{sem};
 
-use crate::given::Given;
-use crate::kept_token::KeptToken;
+use crate::kept_tokens::KeptTokens;
 use crate::params::{Params, with_client_params, with_refresh_params};
 use crate::renewal_times::RenewalTimes;
 use crate::scopes::{joined_scope, joined_scopes};
@@ -66,6 +67,7 @@ use std::time::Duration;
 /// Contracts see a keeper of any type as a `Keeper`.
 pub struct TokenKeeper<'a, TE, TR, TIR, RT, TRE, A, D, I, R>
 where
+    TR: TokenResponse + Drop,
     A: EndpointState,
     D: EndpointState,
     I: EndpointState,
@@ -76,8 +78,7 @@ where
     scope: Option<Scope>,
     refresh_scope: Option<Scope>,
     extra_params: Params<'a>,
-    token: Option<KeptToken>,
-    refresh_token: Option<RefreshToken>,
+    kept: KeptTokens<TR>,
 }
 
 // `Drop` is written out, so that in a function that holds a keeper, the proof of its drop is one
@@ -85,6 +86,7 @@ where
 impl<'a, TE, TR, TIR, RT, TRE, A, D, I, R> Drop
     for TokenKeeper<'a, TE, TR, TIR, RT, TRE, A, D, I, R>
 where
+    TR: TokenResponse + Drop,
     A: EndpointState,
     D: EndpointState,
     I: EndpointState,
@@ -97,8 +99,7 @@ where
             scope: _,
             refresh_scope: _,
             extra_params: _,
-            token: _,
-            refresh_token: _,
+            kept: _,
         } = self;
     }
 }
@@ -127,6 +128,7 @@ pub type BasicTokenKeeper<
 impl<'a, TE, TR, TIR, RT, TRE, A, D, I, R> Model
     for TokenKeeper<'a, TE, TR, TIR, RT, TRE, A, D, I, R>
 where
+    TR: TokenResponse + Drop,
     A: EndpointState,
     D: EndpointState,
     I: EndpointState,
@@ -144,35 +146,45 @@ where
       scope = k.scope;
       refresh_scope = k.refresh_scope;
       extra_params = k.extra_params;
-      token = k.token;
-      refresh_token = k.refresh_token;
+      token = k.kept.token;
+      refresh_token = k.kept.refresh_token;
     } };
 }
 
 impl<'a, TE, TR, TIR, RT, TRE, A, D, I, R> TokenKeeper<'a, TE, TR, TIR, RT, TRE, A, D, I, R>
 where
+    TR: TokenResponse + Drop,
     A: EndpointState,
     D: EndpointState,
     I: EndpointState,
     R: EndpointState,
 {
-    /// A keeper without a token. A token is good until `times.margin` before its lifetime ends. Its
-    /// lifetime is `times.default_lifetime` if the reply has none.
+    /// A keeper without a token. A token is good until `margin` before its lifetime ends. Its
+    /// lifetime is `default_lifetime` if the reply has no `expires_in` (RFC 6749, section 5.1).
     pub fn new(
+        client: &'a Client<TE, TR, TIR, RT, TRE, A, D, I, R, EndpointSet>,
+        refresh_token: Option<RefreshToken>,
+        margin: Duration,
+        default_lifetime: Duration,
+    ) -> Self
+        ensures { result
+            ≡ new_keeper client.now refresh_token (as_nanos margin) (as_nanos default_lifetime) }
+    {
+        let times = RenewalTimes {
+            margin,
+            default_lifetime,
+        };
+        TokenKeeper::with_times(client, refresh_token, times)
+    }
+
+    /// A keeper without a token, as `new` makes it: the two durations have names here.
+    pub fn with_times(
         client: &'a Client<TE, TR, TIR, RT, TRE, A, D, I, R, EndpointSet>,
         refresh_token: Option<RefreshToken>,
         times: RenewalTimes,
     ) -> Self
-        ensures { result ≡ record {
-          client = client.now;
-          margin = as_nanos times.margin;
-          default_lifetime = as_nanos times.default_lifetime;
-          scope = None;
-          refresh_scope = None;
-          extra_params = [];
-          token = None;
-          refresh_token = refresh_token;
-        } }
+        ensures { result ≡ new_keeper client.now refresh_token (as_nanos times.margin)
+            (as_nanos times.default_lifetime) }
     {
         TokenKeeper {
             client,
@@ -180,8 +192,7 @@ where
             scope: None,
             refresh_scope: None,
             extra_params: Params::new(),
-            token: None,
-            refresh_token,
+            kept: KeptTokens::new(refresh_token),
         }
     }
 
@@ -277,12 +288,8 @@ where
           lifetime = as_nanos lifetime;
         }) refresh_token }
     {
-        self.token = Some(KeptToken {
-            access_token,
-            accepted_at,
-            lifetime,
-        });
-        self.refresh_token = refresh_token;
+        self.kept
+            .start_from(access_token, accepted_at, lifetime, refresh_token);
     }
 
     /// Forgets the kept token, so that the next call makes a request. It is for a token that a
@@ -290,7 +297,7 @@ where
     pub fn forget_token(&mut self)
         ensures { self.new ≡ record self.old { token = None } }
     {
-        self.token = None;
+        self.kept.forget_token();
     }
 
     /// Forgets the kept refresh token, so that the next request uses the client's credentials. It
@@ -298,7 +305,7 @@ where
     pub fn forget_refresh_token(&mut self)
         ensures { self.new ≡ record self.old { refresh_token = None } }
     {
-        self.refresh_token = None;
+        self.kept.forget_refresh_token();
     }
 
     /// The identifier of its client.
@@ -320,7 +327,7 @@ where
         ensures { option_map (λ moment. moment.nanosecond) result
             ≡ option_map (λ token. token.accepted_at) self.now.token }
     {
-        match &self.token {
+        match self.kept.token() {
             Some(token) => Some(token.accepted_at),
             None => None,
         }
@@ -331,7 +338,7 @@ where
         ensures { option_map as_nanos result
             ≡ option_map (λ token. token.lifetime) self.now.token }
     {
-        match &self.token {
+        match self.kept.token() {
             Some(token) => Some(token.lifetime),
             None => None,
         }
@@ -341,7 +348,7 @@ where
     pub fn refresh_token(&self) -> Option<&RefreshToken>
         ensures { option_copied result ≡ self.now.refresh_token }
     {
-        self.refresh_token.as_ref()
+        self.kept.refresh_token()
     }
 
     /// The last moment at which the kept token is good. `None` if there is no token, or if that
@@ -352,7 +359,7 @@ where
         ensures none { IfNone result (IfSome self.now.token
             (λ token. IsTimestampNanos (good_until_of self.now.margin token) → ⊥)) }
     {
-        match &self.token {
+        match self.kept.token() {
             Some(token) => token.good_until(self.times.margin),
             None => None,
         }
@@ -362,8 +369,8 @@ where
     pub fn get(&self) -> Option<&AccessToken>
         ensures { option_copied result ≡ option_map (λ token. token.access_token) self.now.token }
     {
-        match &self.token {
-            Some(token) => Some(&token.access_token),
+        match self.kept.token() {
+            Some(token) => Some(token.access_token()),
             None => None,
         }
     }
@@ -372,7 +379,7 @@ where
     pub(crate) fn is_good(&self, now: Timestamp) -> bool
         ensures { result ≡ is_good self.now now.nanosecond }
     {
-        match &self.token {
+        match self.kept.token() {
             Some(token) => token.is_good(self.times.margin, now),
             None => false,
         }
@@ -382,28 +389,9 @@ where
     pub(crate) fn lasts(&self, now: Timestamp) -> bool
         ensures { result ≡ is_good_if_any 0 now.nanosecond self.now.token }
     {
-        match &self.token {
+        match self.kept.token() {
             Some(token) => token.lasts(now),
             None => false,
-        }
-    }
-
-    // Keeps the token of a reply that was accepted at `now`, and its refresh token if it has one.
-    fn accept(&mut self, now: Timestamp, given: Given)
-        ensures { self.new ≡ accept self.old now.nanosecond given }
-    {
-        let Given {
-            access_token,
-            lifetime,
-            refresh_token,
-        } = given;
-        self.token = Some(KeptToken {
-            access_token,
-            accepted_at: now,
-            lifetime: lifetime.unwrap_or(self.times.default_lifetime),
-        });
-        if let Some(refresh_token) = refresh_token {
-            self.refresh_token = Some(refresh_token);
         }
     }
 }
@@ -442,9 +430,48 @@ where
         self.renew(alloc, now, http_client)
     }
 
-    /// Calls `keep_good` and returns the kept token, or the error of that call. This contract does
-    /// not say what the keeper keeps afterwards; use `with_token`, or `keep_good` and `get`, to
-    /// know it too.
+    /// Calls `keep_good` and lends the kept token. `fault` is empty before. After an error of that
+    /// call this returns `None`, the error is in `fault`, and what was kept is unchanged. Otherwise
+    /// `fault` stays empty. Once the token is given back, the keeper is as that call left it.
+    pub fn lend_token<C: SyncHttpClient>(
+        &mut self,
+        alloc: Global,
+        now: Timestamp,
+        http_client: &mut C,
+        fault: &mut Option<RequestTokenError<C::Error, TE>>,
+    ) -> Option<&AccessToken>
+        requires client { C.is_ready http_client.old }
+        requires empty { fault.old ≡ None }
+        ensures* lends { sem 𝓛 (LendsToken TE.row TR.row TIR.row RT.row TRE.row
+            A.row D.row I.row R.row TR.TokenType.row
+            (record {
+              access_token = TR.access_token;
+              token_type = TR.token_type;
+              lifetime = TR.lifetime;
+              refresh_token = TR.refresh_token;
+              scopes = TR.scopes;
+            })
+            TR.FromJson TR.ToJson TR.Debug
+            TR.TokenType.FromJson TR.TokenType.ToJson TR.TokenType.Debug
+            TR.TokenType.PartialEq TR.TokenType.TryClone
+            A.EndpointState D.EndpointState I.EndpointState R.EndpointState
+            (λ rule. AsksOnce TR.meaning TE.meaning C.step (answer_of rule TR.reading TE.reading))
+            (given_by TR.access_token TR.lifetime TR.refresh_token)
+            self.entry now.nanosecond http_client.old result fault.new http_client.new) }
+        ensures ready { C.is_ready http_client.new }
+    {
+        match self.keep_good(alloc, now, http_client) {
+            Ok(()) => Some(self.get().unwrap()),
+            Err(error) => match std::mem::replace(fault, Some(error)) {
+                None => None,
+                Some(_earlier) => unreachable!(),
+            },
+        }
+    }
+
+    /// Calls `lend_token` and returns the kept token, or the error of that call. This contract does
+    /// not say what the keeper keeps afterwards; use `lend_token` or `with_token`, or `keep_good`
+    /// and `get`, to know it too.
     pub fn token<C: SyncHttpClient>(
         &mut self,
         alloc: Global,
@@ -460,9 +487,11 @@ where
             self.old now.nanosecond http_client.old result http_client.new kept }
         ensures ready { C.is_ready http_client.new }
     {
-        match self.keep_good(alloc, now, http_client) {
-            Ok(()) => Ok(self.get().unwrap()),
-            Err(error) => Err(error),
+        let mut fault = None;
+        let lent = self.lend_token(alloc, now, http_client, &mut fault);
+        match fault {
+            Some(fault) => Err(fault),
+            None => Ok(lent.unwrap()),
         }
     }
 
@@ -506,8 +535,13 @@ where
             self.old now.nanosecond http_client.old result http_client.new self.new }
         ensures ready { C.is_ready http_client.new }
     {
-        let answer = self.ask(alloc, http_client);
-        self.settle(alloc, now, answer)
+        match self.ask(alloc, http_client) {
+            Ok(reply) => {
+                self.kept.accept(now, reply, self.times.default_lifetime);
+                Ok(())
+            }
+            Err(fault) => Err(fault),
+        }
     }
 
     // Requests another token.
@@ -522,7 +556,7 @@ where
             self.now http_client.old result http_client.new }
         ensures ready { C.is_ready http_client.new }
     {
-        match &self.refresh_token {
+        match self.kept.refresh_token() {
             Some(refresh_token) => self.ask_by_refresh_token(alloc, refresh_token, http_client),
             None => self.ask_by_credentials(alloc, http_client),
         }
@@ -568,28 +602,6 @@ where
         match with_client_params(alloc, request, scope, &self.extra_params) {
             Ok(request) => request.request(alloc, http_client),
             Err(AllocError) => Err(RequestTokenError::Memory { sent: false }),
-        }
-    }
-
-    // Keeps the token in the answer to a request, or returns its error.
-    fn settle<RE>(
-        &mut self,
-        alloc: Global,
-        now: Timestamp,
-        answer: Result<TR, RequestTokenError<RE, TE>>,
-    ) -> Result<(), RequestTokenError<RE, TE>>
-        ensures { Settles (given_by TR.access_token TR.lifetime TR.refresh_token)
-            self.old now.nanosecond answer result self.new }
-    {
-        match answer {
-            Ok(reply) => match Given::from_reply(alloc, &reply) {
-                Ok(given) => {
-                    self.accept(now, given);
-                    Ok(())
-                }
-                Err(AllocError) => Err(RequestTokenError::Memory { sent: true }),
-            },
-            Err(fault) => Err(fault),
         }
     }
 }

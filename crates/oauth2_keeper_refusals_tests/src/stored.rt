@@ -3,7 +3,7 @@
 use crate::client::TokenClient;
 use crate::values::{Moment, Span, duration, moment};
 use oauth2::{AccessToken, ReadError, RefreshToken, compact, read_body};
-use oauth2_keeper::{BasicTokenKeeper, RenewalTimes, TokenKeeper};
+use oauth2_keeper::{BasicTokenKeeper, TokenKeeper};
 use oauth2_refusals_support::{Ended, show_fault, text};
 use oauth2_stored_token::{StoredToken, start_from_stored, to_stored};
 use std::alloc::Global;
@@ -30,14 +30,7 @@ fn refresh_token(alloc: Global, token: Option<&str>) -> Result<Option<RefreshTok
 
 fn empty(client: &TokenClient, margin: Duration) -> BasicTokenKeeper<'_> {
     let default_lifetime = Duration::from_secs(60);
-    TokenKeeper::new(
-        client,
-        None,
-        RenewalTimes {
-            margin,
-            default_lifetime,
-        },
-    )
+    TokenKeeper::new(client, None, margin, default_lifetime)
 }
 
 /// A keeper that starts from `start`. The lifetime of a token is one minute if the reply has none.

@@ -5,6 +5,7 @@ pub mod FleetFacts
 pub mod StoreRuns
 pub mod Unsent
 pub mod Rounds
+pub mod Order
 pub mod KeeperFacts
 pub mod KeeperSendings
 pub mod MarkedTokens

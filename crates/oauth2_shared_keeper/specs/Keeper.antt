@@ -1,11 +1,12 @@
 -- What a keeper does in its rounds, and what it tells.
-use Rattle.std.specs.Prelude.{◌≡◌, ◌⊎◌, ℕ, ◌-◌, ◌≤◌, ℤ, Bool, true, false, List, [], ◌∷◌, ◌++◌, Option, Some, None}
+use Rattle.std.specs.Prelude.{◌≡◌, ◌⊎◌, ℕ, ◌-◌, ◌≤◌, ℤ, Bool, true, false, List, [], ◌∷◌, ◌++◌, map, Option, Some, None, Result}
 use Rattle.std.specs.Duration.{as_nanos}
 use Rattle.std.specs.declared.time.Duration.{Duration}
 use Rattle.jiff.specs.Types.{Timestamp}
 use Rattle.oauth2_shared_token.specs.declared.renewal.Content.{Content}
 use Rattle.oauth2_shared_token.specs.declared.renewal.Content.TheVariants.{AtRest, Marked, Empty}
 use Rattle.oauth2_shared_token.specs.declared.renewal.StoredValue.{StoredValue}
+use Rattle.oauth2_shared_keeper.specs.declared.replaced.Replaced.{Replaced}
 use Rattle.oauth2_shared_keeper.specs.declared.held.Held.{Held}
 use Rattle.oauth2_shared_keeper.specs.declared.held.Held.TheVariants as held
 use Rattle.oauth2_shared_keeper.specs.declared.outcome.Outcome.{Outcome}
@@ -13,7 +14,7 @@ use Rattle.oauth2_shared_keeper.specs.declared.outcome.Outcome.TheVariants.{Ends
 use Rattle.oauth2_shared_keeper.specs.declared.renewed.Renewed.{Renewed}
 use Rattle.oauth2_shared_keeper.specs.declared.renewed.Renewed.TheVariants as renewed
 use Rattle.oauth2_shared_keeper.specs.declared.settings.KeeperSettings.{KeeperSettings}
-use Rattle.oauth2_shared_keeper.specs.Call.{Call, Load}
+use Rattle.oauth2_shared_keeper.specs.Call.{Call, Load, StoreLeads}
 use Rattle.oauth2_shared_keeper.specs.Renewal.{IsRenewal}
 
 -- a token at rest is handed out if it is good, and else renewed
@@ -125,6 +126,39 @@ WorldLeads {W} reads sleeps draws w (Slept wait ∷ events) last =
     (next : W) × sleeps w wait next × WorldLeads reads sleeps draws next events last
 WorldLeads {W} reads sleeps draws w (Drawn name ∷ events) last =
     (next : W) × draws w name next × WorldLeads reads sleeps draws next events last
+
+-- a call of a keeper: to its store or its client, or to its world
+pub data KeeperCall (T : Type 0) : Type 0 where
+  Asked : Call T → KeeperCall T
+  Lived : WorldCall → KeeperCall T
+
+-- the calls of a round, in order: it loads, then reads the clock, then draws a name and renews
+abbrev pub keeper_calls_of : {T E : Type 0} → Round T E → List (KeeperCall T)
+keeper_calls_of Blind = Asked (Load None) ∷ []
+keeper_calls_of (Seen p now) = Asked (Load (Some p)) ∷ Lived (Reading now) ∷ []
+keeper_calls_of (Renewing p now name calls end) =
+    Asked (Load (Some p)) ∷ Lived (Reading now) ∷ Lived (Drawn name) ∷ map (λ call. Asked call) calls
+
+-- those of all rounds, in order: a sleep lies between two rounds
+abbrev pub keeper_calls_in : {T E : Type 0} → Duration → List (Round T E) → List (KeeperCall T)
+keeper_calls_in wait [] = []
+keeper_calls_in wait (round ∷ []) = keeper_calls_of round
+keeper_calls_in wait (round ∷ next ∷ rounds) =
+    keeper_calls_of round ++ Lived (Slept wait) ∷ keeper_calls_in wait (next ∷ rounds)
+
+-- exactly the calls to the store and to the world among these, in order, can lead the two, which are one state,
+-- from the first state to the last
+abbrev pub TimedLeads : {T S SE : Type 0} → (S → List ℕ → Result (StoredValue T) SE → S → Type 0)
+    → (S → List ℕ → ℕ → Content T → Result Replaced SE → S → Type 0)
+    → (S → Timestamp → S → Type 0) → (S → Duration → S → Type 0) → (S → ℕ → S → Type 0)
+    → List ℕ → S → List (KeeperCall T) → S → Type 0
+TimedLeads {T} {S} {SE} loads replaces reads sleeps draws name s [] last = s ≡ last
+TimedLeads {T} {S} {SE} loads replaces reads sleeps draws name s (Asked call ∷ calls) last =
+    (next : S) × StoreLeads loads replaces name s (call ∷ []) next
+    × TimedLeads loads replaces reads sleeps draws name next calls last
+TimedLeads {T} {S} {SE} loads replaces reads sleeps draws name s (Lived call ∷ calls) last =
+    (next : S) × WorldLeads reads sleeps draws s (call ∷ []) next
+    × TimedLeads loads replaces reads sleeps draws name next calls last
 
 -- the token and the error, if a refresh token was sent and there is no new token
 abbrev pub IfNoAnswer : {T E : Type 0} → Held T E → (T → E → Type 0) → Type 0

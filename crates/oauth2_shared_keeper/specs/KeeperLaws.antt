@@ -2,6 +2,7 @@
 use Rattle.std.specs.Prelude.{◌≡◌, ℕ, ◌+◌, ◌-◌, ◌*◌, ◌≤◌, ℤ, pos, ◌+ℤ◌, ◌≤ℤ◌, Bool, true, false, IsTrue, List, [], ◌∷◌, ◌++◌, Option, Some, None}
 use Rattle.std.specs.Duration.{as_nanos}
 use Rattle.std.specs.List.{Contains}
+use Rattle.std.specs.declared.time.Duration.{Duration}
 use Rattle.jiff.specs.Types.{Timestamp}
 use Rattle.oauth2_shared_token.specs.declared.renewal.Content.TheVariants.{AtRest, Marked}
 use Rattle.oauth2_shared_token.specs.declared.renewal.StoredValue.{StoredValue}
@@ -11,7 +12,7 @@ use Rattle.oauth2_shared_keeper.specs.declared.renewed.Renewed.{Renewed}
 use Rattle.oauth2_shared_keeper.specs.declared.settings.KeeperSettings.{KeeperSettings}
 use Rattle.oauth2_shared_keeper.specs.Call.{Call, Replace, Refresh, refreshes_in}
 use Rattle.oauth2_shared_keeper.specs.Renewal.{IsRenewal}
-use Rattle.oauth2_shared_keeper.specs.Keeper.{Round, Blind, Seen, Renewing, IsHeld, calls_in, WorldCall, Reading, Slept, Drawn, events_in}
+use Rattle.oauth2_shared_keeper.specs.Keeper.{Round, Blind, Seen, Renewing, IsHeld, calls_in, WorldCall, Reading, Slept, Drawn, events_in, KeeperCall, Asked, Lived, keeper_calls_in}
 
 -- how many of these rounds have a renewal
 abbrev pub renewals_in : {T E : Type 0} → List (Round T E) → ℕ
@@ -26,6 +27,18 @@ slept_in [] = 0
 slept_in (Reading now ∷ events) = slept_in events
 slept_in (Slept wait ∷ events) = as_nanos wait + slept_in events
 slept_in (Drawn name ∷ events) = slept_in events
+
+-- the calls to the store and the client among these
+abbrev pub asked_in : {T : Type 0} → List (KeeperCall T) → List (Call T)
+asked_in [] = []
+asked_in (Asked call ∷ calls) = call ∷ asked_in calls
+asked_in (Lived call ∷ calls) = asked_in calls
+
+-- the calls to the world among these
+abbrev pub lived_in : {T : Type 0} → List (KeeperCall T) → List WorldCall
+lived_in [] = []
+lived_in (Asked call ∷ calls) = lived_in calls
+lived_in (Lived call ∷ calls) = call ∷ lived_in calls
 
 -- the clock is never set back, and no sleep is too short: each reading is at least the one before
 -- it (the first: at least `from`) and all sleeps between the two
@@ -60,6 +73,13 @@ module _ {T E : Type 0} (is_good : T → ℤ → ℕ → Bool) (settings : Keepe
       ((old : T) × Contains calls (Refresh old (Some token))) × ((version : ℕ) × Contains calls (Replace version (AtRest token) true))
 
 module _ (T E : Type 0) where
+  -- the calls of a keeper, in order, are those of its rounds to the store and the client, and those to the world,
+  -- of which the laws below speak
+  abbrev pub EachCallIsOfItsRounds : Type 0
+  EachCallIsOfItsRounds =
+      (wait : Duration) (rounds : List (Round T E)) →
+      (asked_in (keeper_calls_in wait rounds) ≡ calls_in rounds) × (lived_in (keeper_calls_in wait rounds) ≡ events_in wait rounds)
+
   -- a call sends one refresh token at most, and begins at most one renewal a round
   abbrev pub EachCallSendsOnce : Type 0
   EachCallSendsOnce =

@@ -2,6 +2,7 @@
 
 ghost use Rattle.oauth2_shared_keeper.specs.Fleets.{EachRefreshIsOfTheFleet};
 ghost use Rattle.oauth2_shared_keeper.specs.Fleets.{EachRefreshTokenIsSentOnce};
+ghost use Rattle.oauth2_shared_keeper.specs.KeeperLaws.{EachCallIsOfItsRounds};
 ghost use Rattle.oauth2_shared_keeper.specs.KeeperLaws.{EachCallSendsOnce, EachCallSleepsLittle};
 ghost use Rattle.oauth2_shared_keeper.specs.KeeperLaws.{EachGoodIsGood, EachOldIsGood};
 ghost use Rattle.oauth2_shared_keeper.specs.KeeperLaws.{EachSendingIsOfARenewal};
@@ -50,6 +51,12 @@ pub fn each_store_has_a_fleet<T>()
 #[tactic(auto, using(crate::proofs::StoreRuns::each_token_of_a_store_is_sent_once))]
 pub fn each_token_of_a_store_is_sent_once<T>()
     ensures { EachTokenOfAStoreIsSentOnce T }
+{}
+
+/// The calls of a keeper, in order, are those of its rounds to the store and the client, and those
+/// to the world, of which the laws below speak.
+pub fn each_call_is_of_its_rounds<T, E>()
+    ensures { EachCallIsOfItsRounds T E }
 {}
 
 /// A call of a keeper sends one refresh token at most, and that once. It begins at most one

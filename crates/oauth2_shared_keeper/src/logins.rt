@@ -11,7 +11,7 @@ use crate::shared_keeper::SharedKeeper;
 use crate::store::TokenStore;
 use oauth2_shared_token::{Content, StoredValue};
 
-impl<S, C, W> SharedKeeper<S, C, W> {
+impl<S, C> SharedKeeper<S, C> {
     /// Puts the token of a new login in the place of whatever the store has under this name. If
     /// somebody else is first, it looks again, at most as often as a renewal loads.
     pub fn log_in<T: Drop>(&mut self, name: &str, token: T) -> LoggedIn<T>
@@ -21,7 +21,6 @@ impl<S, C, W> SharedKeeper<S, C, W> {
         ensures login { LogsIn S.loads S.replaces name.now self.old.settings.limits.loads token
             self.old.store result self.new.store }
         ensures client { self.new.client ≡ self.old.client }
-        ensures world { self.new.world ≡ self.old.world }
         ensures settings { self.new.settings ≡ self.old.settings }
         ensures ready { S.is_ready self.new.store }
     {
@@ -37,7 +36,6 @@ impl<S, C, W> SharedKeeper<S, C, W> {
         ensures answer { PutsAt S.replaces name.now version token
             self.old.store result self.new.store }
         ensures client { self.new.client ≡ self.old.client }
-        ensures world { self.new.world ≡ self.old.world }
         ensures settings { self.new.settings ≡ self.old.settings }
         ensures ready { S.is_ready self.new.store }
     {
@@ -53,7 +51,6 @@ impl<S, C, W> SharedKeeper<S, C, W> {
         ensures logout { LogsOut S.loads S.replaces name.now self.old.settings.limits.loads
             self.old.store result self.new.store }
         ensures client { self.new.client ≡ self.old.client }
-        ensures world { self.new.world ≡ self.old.world }
         ensures settings { self.new.settings ≡ self.old.settings }
         ensures ready { S.is_ready self.new.store }
     {

@@ -28,13 +28,13 @@ mod parts;
 mod text_token;
 mod told;
 
-use oauth2_shared_keeper::{KeeperSettings, Limits, SharedKeeper};
+use oauth2_shared_keeper::{KeeperSettings, Limits, SharedKeeper, StoreAndWorld};
 use parts::{PipeServer, PipeStore, PipeWorld};
 use std::io;
 use std::time::Duration;
 use text_token::TextToken;
 
-type PipeKeeper<'r> = SharedKeeper<PipeStore<'r>, PipeServer<'r>, PipeWorld<'r>>;
+type PipeKeeper<'r> = SharedKeeper<StoreAndWorld<PipeStore<'r>, PipeWorld<'r>>, PipeServer<'r>>;
 
 fn settings_of(line: &str) -> Option<KeeperSettings> {
     let mut words = line.split_whitespace();
@@ -84,9 +84,11 @@ fn main(rt: HostRuntime) -> io::Result<()> {
         return rt.println("= ?");
     };
     let mut keeper = SharedKeeper {
-        store: PipeStore { rt: &rt },
+        store: StoreAndWorld {
+            store: PipeStore { rt: &rt },
+            world: PipeWorld { rt: &rt },
+        },
         client: PipeServer { rt: &rt },
-        world: PipeWorld { rt: &rt },
         settings,
     };
     for _ in 0..u64::MAX {

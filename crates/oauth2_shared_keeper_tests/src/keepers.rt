@@ -4,7 +4,7 @@ use crate::memory_store::{MemoryStore, Server};
 use crate::still_world::StillWorld;
 use crate::timed_token::TimedToken;
 use jiff::Timestamp;
-use oauth2_shared_keeper::{Content, KeeperSettings, Limits, SharedKeeper};
+use oauth2_shared_keeper::{Content, KeeperSettings, Limits, SharedKeeper, StoreAndWorld};
 use std::process::Abort;
 use std::time::Duration;
 
@@ -137,25 +137,27 @@ pub fn keeper_of(
     kept_next: Option<u64>,
     trouble: Trouble,
     now: Timestamp,
-) -> SharedKeeper<MemoryStore<TimedToken>, Server, StillWorld> {
+) -> SharedKeeper<StoreAndWorld<MemoryStore<TimedToken>, StillWorld>, Server> {
     let (failing_loads, lost_replies, is_overtaken, is_silent) = trouble;
     SharedKeeper {
-        store: MemoryStore {
-            version: 4,
-            content: content_of(stored),
-            failing_loads,
-            lost_replies,
-            is_overtaken,
-            kept_next: kept_next.map(|until| TimedToken { until }),
+        store: StoreAndWorld {
+            store: MemoryStore {
+                version: 4,
+                content: content_of(stored),
+                failing_loads,
+                lost_replies,
+                is_overtaken,
+                kept_next: kept_next.map(|until| TimedToken { until }),
+            },
+            world: StillWorld {
+                now,
+                slept: Duration::ZERO,
+                drawn: 0,
+            },
         },
         client: Server {
             is_silent,
             times_sent: 0,
-        },
-        world: StillWorld {
-            now,
-            slept: Duration::ZERO,
-            drawn: 0,
         },
         settings: settings(),
     }
@@ -170,6 +172,6 @@ fn tokens_of_a_keeper(rt: HostRuntime) {
         let text = format!(in rt.alloc(); "{held:?}").expect(&rt, "a text");
         assert!(rt; text.as_str() == *wanted, "{text}");
         assert_eq!(rt; keeper.client.times_sent, *times);
-        assert_eq!(rt; keeper.world.slept.as_secs(), *seconds);
+        assert_eq!(rt; keeper.store.world.slept.as_secs(), *seconds);
     }
 }

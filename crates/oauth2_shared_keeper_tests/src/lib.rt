@@ -6,6 +6,8 @@
 #[cfg(test)]
 mod keepers;
 #[cfg(test)]
+mod live_store;
+#[cfg(test)]
 mod logins;
 #[cfg(test)]
 mod memory_store;

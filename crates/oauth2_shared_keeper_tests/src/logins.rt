@@ -114,7 +114,7 @@ fn told(
             format!(in rt.alloc(); "{told:?}")
         }
     };
-    (text.expect(rt, "a text"), keeper.store.version)
+    (text.expect(rt, "a text"), keeper.store.store.version)
 }
 
 #[test]

@@ -7,6 +7,7 @@ ghost use Rattle.oauth2_shared_login.specs.Login.{is_good_at, refresh_token_of};
 use jiff::Timestamp;
 use oauth2::{RefreshToken, TokenResponse};
 use oauth2_shared_keeper::SharedToken;
+use oauth2_stored_token::ClientAtEndpoint;
 use oauth2_times::nanosecond_after;
 use std::marker::Model;
 use std::time::Duration;
@@ -17,12 +18,14 @@ use std::time::Duration;
 pub struct SharedLogin<TR> {
     /// The last response of the token endpoint.
     pub response: TR,
-    /// The moment of the call that got it.
+    /// The moment that the clock read before it was asked for.
     pub accepted_at: Timestamp,
     /// How long its access token is good after that.
     pub lifetime: Duration,
     /// The refresh token that was sent for it, which counts on where the response has none.
     pub earlier_refresh_token: Option<RefreshToken>,
+    /// The client and the token endpoint that it belongs to. Its refresh token goes nowhere else.
+    pub client: ClientAtEndpoint,
 }
 
 impl<TR> Model for SharedLogin<TR> {
@@ -36,18 +39,25 @@ impl<TR> Model for SharedLogin<TR> {
       accepted_at = l.accepted_at.nanosecond;
       lifetime = as_nanos l.lifetime;
       earlier_refresh_token = l.earlier_refresh_token;
+      client = l.client;
     } };
 }
 
 impl<TR: TokenResponse> SharedLogin<TR> {
-    /// The login of a response that was asked for at `now`. Its access token is good for
-    /// `default_lifetime` if the response does not say for how long.
-    pub fn new(response: TR, now: Timestamp, default_lifetime: Duration) -> Self
+    /// The login of a response that was asked for at `now`, by this client at this token endpoint.
+    /// Its access token is good for `default_lifetime` if the response does not say for how long.
+    pub fn new(
+        response: TR,
+        now: Timestamp,
+        default_lifetime: Duration,
+        client: ClientAtEndpoint,
+    ) -> Self
         ensures { result ≡ record {
           response = response;
           accepted_at = now.nanosecond;
           lifetime = unwrap_or (TR.lifetime response) (as_nanos default_lifetime);
           earlier_refresh_token = None;
+          client = client;
         } }
     {
         let lifetime = response.expires_in().unwrap_or(default_lifetime);
@@ -56,6 +66,7 @@ impl<TR: TokenResponse> SharedLogin<TR> {
             accepted_at: now,
             lifetime,
             earlier_refresh_token: None,
+            client,
         }
     }
 

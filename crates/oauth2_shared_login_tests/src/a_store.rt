@@ -4,10 +4,10 @@ use crate::refreshes::{NEW, client, text_of};
 use jiff::Timestamp;
 use oauth2::basic::BasicTokenResponse;
 use oauth2_shared_keeper::{
-    Content, Held, KeeperSettings, KeeperWorld, Limits, Replaced, SharedKeeper, StoredValue,
-    TokenStore,
+    Content, Held, KeeperSettings, KeeperWorld, Limits, Replaced, SharedKeeper, StoreAndWorld,
+    StoredValue, TokenStore,
 };
-use oauth2_shared_login::{LoginRefresher, SharedLogin};
+use oauth2_shared_login::{BEARER, ClientAtEndpoint, ClockAndClient, LoginRefresher, SharedLogin};
 use oauth2_tests_support::{NoReply, OneReply, check_text, read};
 use std::alloc::Global;
 use std::test::*;
@@ -17,6 +17,7 @@ use std::time::Duration;
 #[derive(Drop)]
 struct FullStore {
     alloc: Global,
+    client: ClientAtEndpoint,
     replaced: u64,
 }
 
@@ -30,8 +31,11 @@ impl TokenStore<SharedLogin<BasicTokenResponse>> for FullStore {
         let Ok(response) = read(self.alloc, NEW) else {
             return Err(NoReply);
         };
+        let Ok(client) = self.client.try_clone(self.alloc) else {
+            return Err(NoReply);
+        };
         let at = Timestamp::from_second(40).unwrap_or(Timestamp::UNIX_EPOCH);
-        let login = SharedLogin::new(response, at, Duration::ZERO);
+        let login = SharedLogin::new(response, at, Duration::ZERO, client);
         Ok(StoredValue {
             version: 4,
             content: Content::AtRest(login),
@@ -94,24 +98,30 @@ fn handed_out(rt: &HostRuntime, second: i64) -> Result<(String, u64), Fail> {
     let refresher = LoginRefresher {
         alloc: rt.alloc(),
         client: &client,
-        http_client: OneReply::with_body(rt.alloc(), 200, reply)?,
-        time_fn: || Timestamp::UNIX_EPOCH,
+        world: ClockAndClient {
+            time_fn: || Timestamp::UNIX_EPOCH,
+            http_client: OneReply::with_body(rt.alloc(), 200, reply)?,
+        },
         default_lifetime: Duration::from_secs(300),
+        token_types: BEARER,
     };
     let mut keeper = SharedKeeper {
-        store: FullStore {
-            alloc: rt.alloc(),
-            replaced: 0,
+        store: StoreAndWorld {
+            store: FullStore {
+                alloc: rt.alloc(),
+                client: ClientAtEndpoint::of(rt.alloc(), &client)?,
+                replaced: 0,
+            },
+            world: StillWorld { second },
         },
         client: refresher,
-        world: StillWorld { second },
         settings: settings(),
     };
     let text = match keeper.token("mail") {
         Held::Good(login) => text_of(rt, &login)?,
         _ => return Err(Fail::new(format_args!("no good login at {second}"))),
     };
-    Ok((text, keeper.store.replaced))
+    Ok((text, keeper.store.store.replaced))
 }
 
 #[test]

@@ -5,4 +5,8 @@
 #[cfg(test)]
 mod a_store;
 #[cfg(test)]
+mod other_places;
+#[cfg(test)]
 mod refreshes;
+#[cfg(test)]
+mod slow_server;

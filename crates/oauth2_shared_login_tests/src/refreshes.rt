@@ -7,7 +7,9 @@ use oauth2::{
     RequestTokenError, TokenResponse, TokenUrl,
 };
 use oauth2_shared_keeper::RefreshClient;
-use oauth2_shared_login::{LoginRefresher, RefreshFault, SharedLogin};
+use oauth2_shared_login::{
+    BEARER, ClientAtEndpoint, ClockAndClient, LoginRefresher, RefreshFault, SharedLogin,
+};
 use oauth2_tests_support::{NoReply, OneReply, check_text, read, text};
 use std::test::*;
 use std::time::Duration;
@@ -81,9 +83,14 @@ const ROWS: &[Row] = &[
 
 /// The client of the tests.
 pub fn client(rt: &HostRuntime) -> Result<TokenClient, Fail> {
-    let id = ClientId::new(text(rt.alloc(), "aaa")?);
+    client_at(rt, "aaa", "https://as.example/token")
+}
+
+/// A client with this identifier, at this token endpoint.
+pub fn client_at(rt: &HostRuntime, id: &str, endpoint: &str) -> Result<TokenClient, Fail> {
+    let id = ClientId::new(text(rt.alloc(), id)?);
     let secret = ClientSecret::new(text(rt.alloc(), "bbb")?);
-    let url = TokenUrl::new(rt.alloc(), text(rt.alloc(), "https://as.example/token")?)?;
+    let url = TokenUrl::new(rt.alloc(), text(rt.alloc(), endpoint)?)?;
     Ok(
         BasicClient::new(id)
             .set_client_secret(secret)
@@ -91,11 +98,19 @@ pub fn client(rt: &HostRuntime) -> Result<TokenClient, Fail> {
     )
 }
 
-fn login_of(rt: &HostRuntime, row: &Row) -> Result<SharedLogin<BasicTokenResponse>, Fail> {
-    let response = read(rt.alloc(), row.response)?;
-    let mut login = SharedLogin::new(response, Timestamp::UNIX_EPOCH, Duration::from_secs(300));
-    if !row.earlier.is_empty() {
-        let earlier = text(rt.alloc(), row.earlier)?;
+/// A login with this response, which this client got.
+pub fn login_of(
+    rt: &HostRuntime,
+    client: &TokenClient,
+    response: &str,
+    earlier: &str,
+) -> Result<SharedLogin<BasicTokenResponse>, Fail> {
+    let response = read(rt.alloc(), response)?;
+    let named = ClientAtEndpoint::of(rt.alloc(), client)?;
+    let lifetime = Duration::from_secs(300);
+    let mut login = SharedLogin::new(response, Timestamp::UNIX_EPOCH, lifetime, named);
+    if !earlier.is_empty() {
+        let earlier = text(rt.alloc(), earlier)?;
         login.earlier_refresh_token = Some(RefreshToken::new(earlier));
     }
     Ok(login)
@@ -112,11 +127,17 @@ pub fn text_of(rt: &HostRuntime, login: &SharedLogin<BasicTokenResponse>) -> Res
     Ok(format!(in rt.alloc(); "{access_token} for {seconds}s, then {refresh_token}")?)
 }
 
-fn text_of_fault(
+/// The name of a fault, with what it tells.
+pub fn text_of_fault(
     rt: &HostRuntime,
-    fault: &RefreshFault<NoReply, BasicErrorResponse>,
+    fault: &RefreshFault<NoReply, BasicErrorResponse, BasicTokenResponse>,
 ) -> Result<String, Fail> {
     Ok(match fault {
+        RefreshFault::OtherClient => text(rt.alloc(), "other client")?,
+        RefreshFault::OtherEndpoint => text(rt.alloc(), "other endpoint")?,
+        RefreshFault::OtherTokenType(login) => {
+            format!(in rt.alloc(); "other type: {}", text_of(rt, login)?)?
+        }
         RefreshFault::NoRefreshToken => text(rt.alloc(), "no refresh token")?,
         RefreshFault::Request(RequestTokenError::ServerResponse(response)) => {
             format!(in rt.alloc(); "refused by {}", response.error())?
@@ -125,23 +146,40 @@ fn text_of_fault(
     })
 }
 
-fn check_row(rt: &HostRuntime, client: &TokenClient, row: &Row) -> Result<(), Fail> {
-    let login = login_of(rt, row)?;
-    let (status, body) = row.reply;
+/// Refreshes a login by this client, whose server sends this reply; and checks what becomes of it,
+/// and the body that is sent.
+pub fn check_refresh(
+    rt: &HostRuntime,
+    client: &TokenClient,
+    login: &SharedLogin<BasicTokenResponse>,
+    reply: (u16, &str),
+    becomes: &str,
+    sent: &str,
+) -> Result<(), Fail> {
+    let (status, body) = reply;
+    let world = ClockAndClient {
+        time_fn: || Timestamp::UNIX_EPOCH,
+        http_client: OneReply::with_body(rt.alloc(), status, body)?,
+    };
     let mut refresher = LoginRefresher {
         alloc: rt.alloc(),
         client,
-        http_client: OneReply::with_body(rt.alloc(), status, body)?,
-        time_fn: || Timestamp::UNIX_EPOCH,
+        world,
         default_lifetime: Duration::from_secs(300),
+        token_types: BEARER,
     };
-    let becomes = match refresher.refresh(&login) {
+    let found = match refresher.refresh(login) {
         Ok(new) => text_of(rt, &new)?,
         Err(fault) => text_of_fault(rt, &fault)?,
     };
-    check_text(becomes.as_str(), row.becomes)?;
-    let sent = str::from_utf8(refresher.http_client.sent()).unwrap_or("?");
-    check_text(sent, row.sent)
+    check_text(found.as_str(), becomes)?;
+    let body = str::from_utf8(refresher.world.http_client.sent()).unwrap_or("?");
+    check_text(body, sent)
+}
+
+fn check_row(rt: &HostRuntime, client: &TokenClient, row: &Row) -> Result<(), Fail> {
+    let login = login_of(rt, client, row.response, row.earlier)?;
+    check_refresh(rt, client, &login, row.reply, row.becomes, row.sent)
 }
 
 #[test]

@@ -1,3 +1,4 @@
+pub mod AtEndpoint
 pub mod ErrorTexts
 pub mod Started
 pub mod Stored

@@ -1,13 +1,14 @@
 //! Makes a stored token of what a keeper keeps, and starts a keeper from a stored token.
 
-ghost use Rattle.std.specs.Prelude.{◌≡◌, IfOk, Some, option_copied, string_bytes};
+ghost use Rattle.std.specs.Prelude.{◌≡◌, IfOk, Some, option_copied};
 ghost use Rattle.url.specs.Parts.{serialize};
 ghost use Rattle.oauth2_stored_token.specs.Started.{is_of, Takes};
 ghost use Rattle.oauth2_stored_token.specs.Stored.{stored_of};
 
+use crate::client_at_endpoint::{is_request_url, request_url};
 use crate::stored_token::StoredToken;
 use crate::stored_token_error::StoredTokenError;
-use oauth2::{ClientId, EndpointState, RefreshToken, TokenUrl, TryClone};
+use oauth2::{ClientId, EndpointState, RefreshToken, TokenResponse, TokenUrl, TryClone};
 use oauth2_keeper::TokenKeeper;
 use std::alloc::{AllocError, Global};
 
@@ -24,13 +25,6 @@ fn copied_refresh_token(
     })
 }
 
-// The URL that requests to this endpoint go to.
-fn request_url(alloc: Global, token_url: &TokenUrl) -> Result<String, AllocError>
-    ensures { IfOk result (λ text. string_bytes text ≡ serialize token_url.now.url) }
-{
-    String::from_str(alloc, token_url.url().as_str())
-}
-
 /// A copy of the token and the refresh token of a keeper, with the client and the token endpoint
 /// that they belong to; `None` if the keeper has no token.
 pub fn to_stored<TE, TR, TIR, RT, TRE, A, D, I, R>(
@@ -38,6 +32,7 @@ pub fn to_stored<TE, TR, TIR, RT, TRE, A, D, I, R>(
     keeper: &TokenKeeper<'_, TE, TR, TIR, RT, TRE, A, D, I, R>,
 ) -> Result<Option<StoredToken>, AllocError>
 where
+    TR: TokenResponse + Drop,
     A: EndpointState,
     D: EndpointState,
     I: EndpointState,
@@ -72,7 +67,7 @@ fn is_of_endpoint(stored: &StoredToken, token_url: &TokenUrl) -> bool
     ensures { result ≡ is_of stored.now.token_url (Some (serialize token_url.now.url)) }
 {
     match &stored.token_url {
-        Some(stored) => stored.as_str() == token_url.url().as_str(),
+        Some(stored) => is_request_url(stored.as_str(), token_url),
         None => true,
     }
 }
@@ -86,6 +81,7 @@ pub fn start_from_stored<TE, TR, TIR, RT, TRE, A, D, I, R>(
     stored: StoredToken,
 ) -> Result<(), StoredTokenError>
 where
+    TR: TokenResponse + Drop,
     A: EndpointState,
     D: EndpointState,
     I: EndpointState,

@@ -1,9 +1,8 @@
 -- What a keeper keeps after the answer to its request.
-use Rattle.std.specs.Prelude.{◌≡◌, ℤ, true, Result, Ok, Err, List, ℕ}
+use Rattle.std.specs.Prelude.{◌≡◌, ℤ, Result, Ok, Err, List, ℕ}
 use Rattle.oauth2_wire.specs.declared.content_type.ReplyRule.{ReplyRule}
 use Rattle.oauth2_wire.specs.declared.error.RequestTokenError.{RequestTokenError}
 use Rattle.oauth2_wire.specs.Request.{RequestView}
-use Rattle.oauth2_wire.specs.declared.error.RequestTokenError.TheVariants.{Memory}
 use Rattle.oauth2_keeper.specs.Keeper.{Keeper, Given, accept, Renews}
 
 module _ {D T RE : Type 0} (told : D → Given) where
@@ -11,7 +10,7 @@ module _ {D T RE : Type 0} (told : D → Given) where
   abbrev pub Settles : Keeper → ℤ → Result D (RequestTokenError RE T)
       → Result Unit (RequestTokenError RE T) → Keeper → Type 0
   Settles before now (Ok reply) (Ok done) after = after ≡ accept before now (told reply)
-  Settles before now (Ok reply) (Err error) after = (error ≡ Memory true) × (after ≡ before)
+  Settles before now (Ok reply) (Err error) after = ⊥
   Settles before now (Err fault) (Ok done) after = ⊥
   Settles before now (Err fault) (Err error) after = (error ≡ fault) × (after ≡ before)
 

@@ -5,7 +5,7 @@ use Rattle.oauth2_shared_keeper.specs.declared.held.Held.{Held}
 use Rattle.oauth2_shared_keeper.specs.declared.outcome.Outcome.{Outcome}
 use Rattle.oauth2_shared_keeper.specs.declared.outcome.Outcome.TheVariants.{Ends, Waits}
 use Rattle.oauth2_shared_keeper.specs.declared.settings.KeeperSettings.{KeeperSettings}
-use Rattle.oauth2_shared_keeper.specs.Keeper.{Round, IsRound, WorldCall, Slept, events_of}
+use Rattle.oauth2_shared_keeper.specs.Keeper.{Round, IsRound, Slept, KeeperCall, Lived, keeper_calls_of}
 
 -- what the round would tell
 abbrev pub told_by : {T E : Type 0} → Outcome T E → Held T E
@@ -24,7 +24,8 @@ EachWaits is_good settings [] = Unit {0}
 EachWaits {T} {E} is_good settings (round ∷ rounds) =
     ((seen : Held T E) × IsRound is_good settings round (Waits seen)) × EachWaits is_good settings rounds
 
--- the calls to the world of rounds after each of which the keeper slept
-abbrev pub slept_events : {T E : Type 0} → Duration → List (Round T E) → List WorldCall
-slept_events wait [] = []
-slept_events wait (round ∷ rounds) = events_of round ++ Slept wait ∷ slept_events wait rounds
+-- the calls of rounds after each of which the keeper slept
+abbrev pub slept_calls : {T E : Type 0} → Duration → List (Round T E) → List (KeeperCall T)
+slept_calls wait [] = []
+slept_calls wait (round ∷ rounds) =
+    keeper_calls_of round ++ Lived (Slept wait) ∷ slept_calls wait rounds
