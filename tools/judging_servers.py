@@ -6,6 +6,7 @@ import collections
 import contextlib
 import os
 import re
+import select
 import shutil
 import socket
 import subprocess
@@ -205,6 +206,9 @@ class Network:
             return None
         self.connections[number].read += [piece] * bool(piece)
         return piece
+
+    def is_silent(self, number):
+        return not select.select([self.sockets[number]], [], [], 0)[0]
 
     def close(self, number):
         self.sockets.pop(number).close()

@@ -1,4 +1,5 @@
 pub mod Asking
 pub mod Calls
 pub mod Kept
+pub mod Lent
 pub mod RunLaws

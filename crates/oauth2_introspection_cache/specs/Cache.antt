@@ -141,3 +141,14 @@ module _ {D T RE C : Type 0} (asks : ReplyRule → (List ℕ → RequestView →
         CacheCalls cache token now before (Ok false) after next
     CacheAnswers Shows cache token now before (Err error) after next =
         CacheCalls cache token now before (Err error) after next
+
+    -- the same with the value as an `Option`, and the error in a slot; where there is neither, the token is
+    -- not active
+    abbrev pub CacheAnswersOr : {A : Type 0} → (D → A → Type 0) → Cache D → List ℕ → ℤ → C → Option A
+        → Option (RequestTokenError RE T) → C → Cache D → Type 0
+    CacheAnswersOr Shows cache token now before (Some value) fault after next =
+        (fault ≡ None) × CacheAnswers Shows cache token now before (Ok (Some value)) after next
+    CacheAnswersOr Shows cache token now before None (Some error) after next =
+        CacheCalls cache token now before (Err error) after next
+    CacheAnswersOr Shows cache token now before None None after next =
+        CacheCalls cache token now before (Ok false) after next

@@ -1,3 +1,5 @@
 pub mod Cache
+pub mod Decision
+pub mod Lending
 pub mod Runs
 pub mod private

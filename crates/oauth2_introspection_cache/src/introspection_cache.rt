@@ -2,7 +2,8 @@
 //! that may still be used.
 
 ghost use Rattle.std.specs.Prelude.{◌≡◌, ◌≤◌, [], true, Ok, IfOk, OnOk, OnErr, IsSome};
-ghost use Rattle.std.specs.Prelude.{is_some, length, option_copied};
+ghost use Rattle.std.specs.Prelude.{is_some, length, map, option_copied};
+ghost use Rattle.std.specs.Borrow.{sem};
 ghost use Rattle.std.specs.Duration.{as_nanos};
 ghost use Rattle.std.specs.NonZero.{non_zero_usize_get};
 ghost use Rattle.lru.specs.LruCache.{lru_cache};
@@ -18,15 +19,16 @@ ghost use Rattle.oauth2_introspection_cache.specs.Cache.{
   kept_answer,
   promoting,
 };
+ghost use Rattle.oauth2_introspection_cache.specs.Decision.{Decides, judged_if_any, said_by};
 ghost use Rattle.oauth2_introspection_cache.specs.private.Settled.{AsksAndSettles, Settles};
 
+use crate::accepted::AcceptedTokens;
+use crate::confirmation::{ConfirmedIntrospectionResponse, TellsConfirmation};
 use crate::kept_answer::KeptAnswer;
+use crate::refusal::{NotAuthorized, TokenRefusal, decision};
 use jiff::Timestamp;
 use lru::LruCache;
-use oauth2::basic::{
-    BasicErrorResponse, BasicRevocationErrorResponse, BasicTokenIntrospectionResponse,
-    BasicTokenResponse,
-};
+use oauth2::basic::{BasicErrorResponse, BasicRevocationErrorResponse, BasicTokenResponse};
 use oauth2::{
     AccessToken, Client, EndpointNotSet, EndpointSet, EndpointState, ErrorResponse,
     RequestTokenError, StandardRevocableToken, SyncHttpClient, TokenIntrospectionResponse,
@@ -73,8 +75,8 @@ where
     }
 }
 
-/// A cache for a server that uses no extension, for a `BasicClient` whose other endpoints are in
-/// these states.
+/// A cache for a server that uses no extension but those that bind tokens to keys, for a
+/// `ResourceServerClient` whose other endpoints are in these states.
 pub type BasicIntrospectionCache<
     'a,
     A = EndpointNotSet,
@@ -85,7 +87,7 @@ pub type BasicIntrospectionCache<
     'a,
     BasicErrorResponse,
     BasicTokenResponse,
-    BasicTokenIntrospectionResponse,
+    ConfirmedIntrospectionResponse,
     StandardRevocableToken,
     BasicRevocationErrorResponse,
     A,
@@ -223,31 +225,6 @@ where
         self.ask_and_settle(alloc, token, now, http_client)
     }
 
-    /// Calls `is_active` and returns the answer that is kept then, or `None` if the token is not
-    /// active, or the error of that call. This contract does not say what is kept afterwards; use
-    /// `is_active` and `kept_answer` to know it too.
-    pub fn introspect<C: SyncHttpClient>(
-        &mut self,
-        alloc: Global,
-        token: &AccessToken,
-        now: Timestamp,
-        http_client: &mut C,
-    ) -> Result<Option<&TIR>, RequestTokenError<C::Error, TE>>
-        requires { C.is_ready http_client.old }
-        ensures call { (next : Cache TIR)
-            × CacheAnswers
-            (λ rule. AsksOnce TIR.meaning TE.meaning C.step (answer_of rule TIR.reading TE.reading))
-            TIR.active TIR.exp (λ answer shown. shown.now ≡ answer)
-            self.old token.now now.nanosecond http_client.old result http_client.new next }
-        ensures ready { C.is_ready http_client.new }
-    {
-        match self.is_active(alloc, token, now, http_client) {
-            Ok(true) => Ok(Some(self.kept_answer(token).unwrap())),
-            Ok(false) => Ok(None),
-            Err(error) => Err(error),
-        }
-    }
-
     // Whether an answer is kept for the token that may be used.
     fn is_good(&self, token: &AccessToken, now: Timestamp) -> bool
         ensures { result ≡ is_some (good_answer TIR.exp self.now token.now now.nanosecond) }
@@ -312,6 +289,137 @@ where
                 }
             }
             Err(error) => Err(error),
+        }
+    }
+}
+
+impl<'a, TE, TR, TIR, RT, TRE, A, D, R, T> IntrospectionCache<'a, TE, TR, TIR, RT, TRE, A, D, R, T>
+where
+    TE: ErrorResponse + Drop,
+    TIR: TokenIntrospectionResponse + Drop,
+    A: EndpointState,
+    D: EndpointState,
+    R: EndpointState,
+    T: EndpointState,
+{
+    ghost use Rattle.oauth2_introspection_cache.specs.Lending.{LendsAnswer};
+
+    /// Calls `is_active`, and lends the answer that is kept then. Nothing is lent if the token is
+    /// not active, or if that call fails: then its error is in `fault`, which else is `None`. Once
+    /// the answer is given back, the cache is as that call left it.
+    pub fn lend_answer<C: SyncHttpClient>(
+        &mut self,
+        alloc: Global,
+        token: &AccessToken,
+        now: Timestamp,
+        http_client: &mut C,
+        fault: &mut Option<RequestTokenError<C::Error, TE>>,
+    ) -> Option<&TIR>
+        requires { C.is_ready http_client.old }
+        ensures* rests { sem 𝓛 (LendsAnswer TE.row TR.row TIR.row RT.row TRE.row A.row D.row R.row
+            T.row A.EndpointState D.EndpointState R.EndpointState T.EndpointState
+            (λ rule. AsksOnce TIR.meaning TE.meaning C.step (answer_of rule TIR.reading TE.reading))
+            TIR.active TIR.exp self.entry token.now now.nanosecond http_client.old result fault.new
+            http_client.new) }
+        ensures ready { C.is_ready http_client.new }
+    {
+        match self.is_active(alloc, token, now, http_client) {
+            Ok(true) => {
+                *fault = None;
+                Some(self.kept_answer(token).unwrap())
+            }
+            Ok(false) => {
+                *fault = None;
+                None
+            }
+            Err(error) => {
+                *fault = Some(error);
+                None
+            }
+        }
+    }
+
+    /// Calls `lend_answer` and returns the answer, or `None` if the token is not active, or the
+    /// error. This contract does not say what is kept afterwards: that of `lend_answer` does.
+    pub fn introspect<C: SyncHttpClient>(
+        &mut self,
+        alloc: Global,
+        token: &AccessToken,
+        now: Timestamp,
+        http_client: &mut C,
+    ) -> Result<Option<&TIR>, RequestTokenError<C::Error, TE>>
+        requires { C.is_ready http_client.old }
+        ensures call { (next : Cache TIR)
+            × CacheAnswers
+            (λ rule. AsksOnce TIR.meaning TE.meaning C.step (answer_of rule TIR.reading TE.reading))
+            TIR.active TIR.exp (λ answer shown. shown.now ≡ answer)
+            self.old token.now now.nanosecond http_client.old result http_client.new next }
+        ensures ready { C.is_ready http_client.new }
+    {
+        let mut fault = None;
+        match self.lend_answer(alloc, token, now, http_client, &mut fault) {
+            Some(answer) => Ok(Some(answer)),
+            None => match fault {
+                Some(error) => Err(error),
+                None => Ok(None),
+            },
+        }
+    }
+}
+
+impl<'a, TE, TR, TIR, RT, TRE, A, D, R, T> IntrospectionCache<'a, TE, TR, TIR, RT, TRE, A, D, R, T>
+where
+    TE: ErrorResponse,
+    TIR: TellsConfirmation + Drop,
+    A: EndpointState,
+    D: EndpointState,
+    R: EndpointState,
+    T: EndpointState,
+{
+    /// Decides whether a request with this token, which needs all these scopes, is authorized. It
+    /// calls `is_active`, and checks the answer that is kept then. Any error means that the request
+    /// must not be served.
+    pub fn authorize<C: SyncHttpClient>(
+        &mut self,
+        alloc: Global,
+        token: &AccessToken,
+        accepted: &AcceptedTokens<TIR::TokenType>,
+        needed: &[&str],
+        now: Timestamp,
+        http_client: &mut C,
+    ) -> Result<(), NotAuthorized<C::Error, TE>>
+        requires { C.is_ready http_client.old }
+        ensures decides { Decides
+            (λ answer after next. CacheCalls
+            (λ rule. AsksOnce TIR.meaning TE.meaning C.step (answer_of rule TIR.reading TE.reading))
+            TIR.active TIR.exp self.old token.now now.nanosecond
+            http_client.old answer after next)
+            (judged_if_any TIR.TokenType.eq accepted.now (map (λ scope. scope.now) needed.now)
+            now.nanosecond (said_by TIR.active TIR.exp TIR.iss TIR.aud TIR.token_type TIR.is_bound
+            TIR.scopes)) token.now result http_client.new self.new }
+        ensures ready { C.is_ready http_client.new }
+    {
+        let active = self.is_active(alloc, token, now, http_client);
+        decision(active, self.check_kept(token, accepted, needed, now))
+    }
+
+    /// What the answer that is kept for a token decides, whether or not it may still be used. A
+    /// token of which nothing is kept is not active.
+    pub fn check_kept(
+        &self,
+        token: &AccessToken,
+        accepted: &AcceptedTokens<TIR::TokenType>,
+        needed: &[&str],
+        now: Timestamp,
+    ) -> Result<(), TokenRefusal>
+        ensures { result ≡ judged_if_any TIR.TokenType.eq accepted.now
+            (map (λ scope. scope.now) needed.now) now.nanosecond
+            (said_by TIR.active TIR.exp TIR.iss TIR.aud TIR.token_type TIR.is_bound TIR.scopes)
+            (kept_answer self.now token.now) }
+    {
+        match self.kept_answer(token) {
+            Some(answer) => accepted.check(answer, needed, now),
+            None => Err(TokenRefusal::Inactive),
         }
     }
 }

@@ -37,7 +37,7 @@ impl<TIR: TokenIntrospectionResponse> KeptAnswer<TIR> {
 }
 
 // Whether a token that expires then, if ever, has not expired.
-fn is_before(now: Timestamp, expires: Option<Timestamp>) -> bool
+pub(crate) fn is_before(now: Timestamp, expires: Option<Timestamp>) -> bool
     ensures { result ≡ is_before now.nanosecond
         (option_map (λ end. end.nanosecond) expires) }
 {

@@ -1,12 +1,15 @@
 //! A call of a cache, and what is printed of it.
 
+use crate::policy::Policy;
 use jiff::Timestamp;
-use oauth2::basic::BasicTokenIntrospectionResponse;
+use oauth2::basic::BasicErrorResponse;
 use oauth2::http::response::Parts;
 use oauth2::http::{Response, StatusCode};
 use oauth2::{AccessToken, TokenIntrospectionResponse};
-use oauth2_introspection_cache::BasicIntrospectionCache;
-use oauth2_tests_support::OneReply;
+use oauth2_introspection_cache::{
+    BasicIntrospectionCache, ConfirmedIntrospectionResponse, NotAuthorized,
+};
+use oauth2_tests_support::{NoReply, OneReply};
 use std::alloc::Global;
 use std::io::Write;
 
@@ -15,7 +18,7 @@ fn read_moment(text: &str) -> anyhow::Result<Timestamp> {
 }
 
 fn write_answer<W: Write>(
-    answer: &BasicTokenIntrospectionResponse,
+    answer: &ConfirmedIntrospectionResponse,
     writer: &mut W,
 ) -> anyhow::Result<()> {
     let user = answer.sub().unwrap_or("-");
@@ -39,6 +42,21 @@ fn ask<W: Write>(
     }
     let sent = http_client.calls;
     writeln!(writer, "; sent {sent}")?;
+    Ok(())
+}
+
+fn write_decision<W: Write>(
+    decision: &Result<(), NotAuthorized<NoReply, BasicErrorResponse>>,
+    writer: &mut W,
+) -> anyhow::Result<()> {
+    match decision {
+        Ok(()) => write!(writer, "authorized")?,
+        Err(NotAuthorized::Refused(refusal)) => {
+            let (status, challenge) = (refusal.status(), refusal.challenge());
+            write!(writer, "{status}, {challenge}: {refusal}")?;
+        }
+        Err(NotAuthorized::Unknown(error)) => write!(writer, "unknown: {error}")?,
+    }
     Ok(())
 }
 
@@ -83,6 +101,32 @@ fn run_ask<W: Write>(
     let token = AccessToken::from_str(alloc, words.second)?;
     let mut http_client = made_client(alloc, status, words.body)?;
     ask(alloc, cache, &token, now, &mut http_client, writer)
+}
+
+fn run_authorize<W: Write>(
+    alloc: Global,
+    cache: &mut BasicIntrospectionCache<'_>,
+    policy: &Policy,
+    words: Words<'_>,
+    writer: &mut W,
+) -> anyhow::Result<()> {
+    let now = read_moment(words.first)?;
+    let status = words.status.parse::<u16>()?;
+    let token = AccessToken::from_str(alloc, words.second)?;
+    let needed = policy.needed(alloc)?;
+    let mut http_client = made_client(alloc, status, words.body)?;
+    let decision = cache.authorize(
+        alloc,
+        &token,
+        &policy.accepted,
+        needed.as_slice(),
+        now,
+        &mut http_client,
+    );
+    write_decision(&decision, writer)?;
+    let sent = http_client.calls;
+    writeln!(writer, "; sent {sent}")?;
+    Ok(())
 }
 
 fn run_body<W: Write>(
@@ -131,10 +175,11 @@ fn say_unknown<W: Write>(writer: &mut W) -> anyhow::Result<()> {
 pub fn run_call<W: Write>(
     alloc: Global,
     cache: &mut BasicIntrospectionCache<'_>,
+    policy: &Policy,
     line: &str,
     writer: &mut W,
 ) -> anyhow::Result<()> {
-    let mut rest = line.split(' ');
+    let mut rest = line.splitn(5, ' ');
     let command = rest.next().unwrap_or("");
     let words = Words {
         first: rest.next().unwrap_or(""),
@@ -144,6 +189,7 @@ pub fn run_call<W: Write>(
     };
     match command {
         "ask" => run_ask(alloc, cache, words, writer),
+        "authorize" => run_authorize(alloc, cache, policy, words, writer),
         "body" => run_body(alloc, cache, words, writer),
         "forget" => run_kept(alloc, cache, words.first, true, writer),
         "kept" => run_kept(alloc, cache, words.first, false, writer),

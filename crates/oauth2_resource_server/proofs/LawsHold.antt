@@ -57,14 +57,14 @@ module _ {D T E C : Type 0} (asks : ReplyRule → (List ℕ → RequestView → 
       lost_asks (good_answer expires cache token now) cache token before middle after lost result unanswered
       (call_says cache left token now before middle lost first)
 
-module _ {C S E D A T R : Type 0} (opens : C → Place → Result S E → C → Type 0) (contents remaining : S → Option (List ℕ))
+module _ {C S E D A T R : Type 0} (opens : C → Place → Result S E → C → Type 0) (looks : S → Bool → S → Type 0) (contents remaining : S → Option (List ℕ))
     (reads writes : S → Result ℕ Io.Error → S → Type 0) (flushes : S → Result ⊤ Io.Error → S → Type 0) (meaning : D → A) (error_meaning : T → R)
     (says : ReplyRule → ReplyView → Answer A R) (is_active : D → Bool) (expires : D → Option ℤ) where
   abbrev Histories : KeepAliveClient C S → Type 0
-  Histories = EachHasHistory opens contents remaining reads writes flushes
+  Histories = EachHasHistory opens looks contents remaining reads writes flushes
 
   abbrev Step : KeepAliveClient C S → HttpRequest → Result HttpResponse (KeepAliveError E) → KeepAliveClient C S → Type 0
-  Step = StepsOver opens contents remaining reads writes flushes
+  Step = StepsOver opens looks contents remaining reads writes flushes
 
   abbrev Requests : ReplyRule → (List ℕ → RequestView → Type 0) → List ℕ → KeepAliveClient C S → Result D (RequestTokenError (KeepAliveError E) T) → KeepAliveClient C S → Type 0
   Requests rule = AsksOnce meaning error_meaning Step (says rule)
@@ -72,7 +72,7 @@ module _ {C S E D A T R : Type 0} (opens : C → Place → Result S E → C → 
   sent_keeps : (rule : ReplyRule) (before after : KeepAliveClient C S) (prepared : Result HttpRequest RequestFault) (result : Result D (RequestTokenError (KeepAliveError E) T))
       → Histories before → SendsOnce meaning error_meaning Step (says rule) before prepared result after → Histories after
   sent_keeps rule before after (Ok request) result each (answer, (same, calls), told) =
-      (keeps_histories opens contents remaining reads writes flushes before request answer after each calls).kept
+      (keeps_histories opens looks contents remaining reads writes flushes before request answer after each calls).kept
   sent_keeps rule before after (Err fault.NotHttp) (Err (token.Memory sent)) each (unsent, same) = subst Histories (sym same) each
   sent_keeps rule before after (Err fault.Memory) (Err (token.Memory sent)) each (unsent, same) = subst Histories (sym same) each
   sent_keeps rule before after (Err fault.NotHttp) (Err (token.Other text)) each (is, same) = subst Histories (sym same) each
@@ -103,7 +103,7 @@ module _ {C S E D A T R : Type 0} (opens : C → Place → Result S E → C → 
   call_keeps cache next token now before after result each (inactive, (none, is, (answer, fails_to, asked)), kept) = asked_keeps cache token before after (Ok answer) each asked
   call_keeps cache next token now before after result each (failed, (none, (error, is, fails)), kept) = failed_keeps cache token before after error each fails
 
-  pub keeps_each_history : KeepsEachHistory opens contents remaining reads writes flushes meaning error_meaning says is_active expires
+  pub keeps_each_history : KeepsEachHistory opens looks contents remaining reads writes flushes meaning error_meaning says is_active expires
   keeps_each_history cache next token now before after result each (inl (answered, call)) = call_keeps cache next token now before after result each call
   keeps_each_history cache next token now before after result each (inr (lost, middle, left, unanswered, first, second)) =
       call_keeps left next token now middle after result (call_keeps cache left token now before middle lost each first) second

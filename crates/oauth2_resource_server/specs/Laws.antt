@@ -30,7 +30,7 @@ module _ {D T E C : Type 0} (asks : ReplyRule → (List ℕ → RequestView → 
       → MatchOption (good_answer expires cache token now) (IsAskedAbout cache token before)
       (λ answer. (result ≡ Ok true) × (after ≡ before))
 
-module _ {C S E D A T R : Type 0} (opens : C → Place → Result S E → C → Type 0) (contents remaining : S → Option (List ℕ))
+module _ {C S E D A T R : Type 0} (opens : C → Place → Result S E → C → Type 0) (looks : S → Bool → S → Type 0) (contents remaining : S → Option (List ℕ))
     (reads writes : S → Result ℕ Io.Error → S → Type 0) (flushes : S → Result ⊤ Io.Error → S → Type 0) (meaning : D → A) (error_meaning : T → R)
     (says : ReplyRule → ReplyView → Answer A R) (is_active : D → Bool) (expires : D → Option ℤ) where
   -- each idle connection was opened to its place and carried exchanges for it alone, one after the other,
@@ -38,8 +38,8 @@ module _ {C S E D A T R : Type 0} (opens : C → Place → Result S E → C → 
   abbrev pub KeepsEachHistory : Type 0
   KeepsEachHistory =
       (cache next : Cache D) (token : List ℕ) (now : ℤ) (before after : KeepAliveClient C S) (result : Result Bool (RequestTokenError (KeepAliveError E) T))
-      → EachHasHistory opens contents remaining reads writes flushes before
+      → EachHasHistory opens looks contents remaining reads writes flushes before
       → Asks
-      (λ rule. AsksOnce meaning error_meaning (StepsOver opens contents remaining reads writes flushes) (says rule))
+      (λ rule. AsksOnce meaning error_meaning (StepsOver opens looks contents remaining reads writes flushes) (says rule))
       is_active expires cache token now before result after next
-      → EachHasHistory opens contents remaining reads writes flushes after
+      → EachHasHistory opens looks contents remaining reads writes flushes after

@@ -1,6 +1,6 @@
 -- What a resource server asks about the tokens that it is sent, over a connection that it keeps
 -- (RFC 7662, 2).
-use Rattle.std.specs.Prelude.{◌≡◌, ◌⊎◌, ℕ, ℤ, ⊤, Bool, true, false, ◌||◌, List, [], ◌∷◌, Option, Some, None, Result, Ok, Err, bytes_eq}
+use Rattle.std.specs.Prelude.{◌≡◌, ◌⊎◌, ℕ, ℤ, ⊤, Bool, true, false, List, Option, Result, Ok, Err}
 use Rattle.std.specs.declared.io.Error as Io
 use Rattle.oauth2_wire.specs.Request.{HttpRequest, RequestView}
 use Rattle.oauth2_wire.specs.Reply.{HttpResponse}
@@ -12,26 +12,12 @@ use Rattle.oauth2_http1_connections.specs.Client.{IsSetAs, Calls}
 use Rattle.oauth2_http1_connections.specs.declared.client.KeepAliveClient.{KeepAliveClient}
 use Rattle.oauth2_http1_connections.specs.declared.error.KeepAliveError.{KeepAliveError}
 use Rattle.oauth2_http1_connections.specs.declared.error.KeepAliveError.TheVariants as kept
-use Rattle.oauth2_introspection_cache.specs.Cache.{Cache, CacheCalls, kept_answer}
-
--- whether the text is one of the list, byte for byte
-abbrev pub is_among : List ℕ → List (List ℕ) → Bool
-is_among text [] = false
-is_among text (first ∷ later) = bytes_eq first text || is_among text later
-
--- whether the scope is one of these (RFC 6749, 3.3)
-abbrev pub is_named : List ℕ → Option (List (List ℕ)) → Bool
-is_named scope None = false
-is_named scope (Some scopes) = is_among scope scopes
-
--- whether an answer names the scope (RFC 7662, 2.2: `scope`)
-abbrev pub is_in_scope : {D : Type 0} → (D → Option (List (List ℕ))) → List ℕ → Option D → Bool
-is_in_scope scopes scope None = false
-is_in_scope scopes scope (Some answer) = is_named scope (scopes answer)
+use Rattle.oauth2_introspection_cache.specs.Cache.{Cache, CacheCalls}
 
 -- one request of a client that keeps connections: which one it takes, what goes over it, and which it
--- keeps (RFC 9112, 9.3)
+-- keeps (RFC 9112, 9.2 and 9.3)
 abbrev pub StepsOver : {C S E : Type 0} → (C → Place → Result S E → C → Type 0)
+    → (S → Bool → S → Type 0)
     → (S → Option (List ℕ)) → (S → Option (List ℕ))
     → (S → Result ℕ Io.Error → S → Type 0)
     → (S → Result ℕ Io.Error → S → Type 0)
@@ -41,9 +27,9 @@ abbrev pub StepsOver : {C S E : Type 0} → (C → Place → Result S E → C �
     → Result HttpResponse (KeepAliveError E)
     → KeepAliveClient C S
     → Type 0
-StepsOver opens contents remaining reads writes flushes before request answer after =
+StepsOver opens looks contents remaining reads writes flushes before request answer after =
     IsSetAs before after
-    × Calls opens contents remaining reads writes flushes before request answer after
+    × Calls opens looks contents remaining reads writes flushes before request answer after
 
 -- the request went over a connection that was used before, and no byte of a reply came
 abbrev pub is_unanswered : {A E T : Type 0} → Result A (RequestTokenError (KeepAliveError E) T)
@@ -62,15 +48,3 @@ module _ {D T E C : Type 0} (asks : ReplyRule → (List ℕ → RequestView → 
       ⊎ ((lost : Result Bool (RequestTokenError (KeepAliveError E) T)) × (middle : C) × (left : Cache D) × (is_unanswered lost ≡ true)
       × CacheCalls asks is_active expires cache token now before lost middle left
       × CacheCalls asks is_active expires left token now middle result after next)
-
-  -- a question whether the token counts for a scope: it does if it is active and its answer names the scope
-  abbrev pub Decides : (D → Option (List (List ℕ))) → List ℕ → Cache D → List ℕ → ℤ → C
-      → Result Bool (RequestTokenError (KeepAliveError E) T) → C → Cache D → Type 0
-  Decides scopes scope cache token now before (Ok true) after next =
-      Asks cache token now before (Ok true) after next
-      × (is_in_scope scopes scope (kept_answer next token) ≡ true)
-  Decides scopes scope cache token now before (Ok false) after next =
-      Asks cache token now before (Ok false) after next
-      ⊎ (Asks cache token now before (Ok true) after next × (is_in_scope scopes scope (kept_answer next token) ≡ false))
-  Decides scopes scope cache token now before (Err error) after next =
-      Asks cache token now before (Err error) after next

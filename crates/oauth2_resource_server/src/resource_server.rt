@@ -1,24 +1,23 @@
 //! The resource server's side of introspection.
 
-ghost use Rattle.std.specs.Prelude.{◌≡◌, true, Ok, IsSome, option_copied};
+ghost use Rattle.std.specs.Prelude.{◌≡◌, true, Ok, IsSome, map};
 ghost use Rattle.oauth2_wire.specs.Once.{AsksOnce};
 ghost use Rattle.oauth2_wire.specs.Reply.{answer_of};
 ghost use Rattle.oauth2_introspection_cache.specs.Cache.{forgetting, kept_answer};
-ghost use Rattle.oauth2_resource_server.specs.Questions.{Asks, Decides, StepsOver};
-ghost use Rattle.oauth2_resource_server.specs.Questions.{is_among, is_in_scope, is_unanswered};
+ghost use Rattle.oauth2_introspection_cache.specs.Decision.{Decides, judged_if_any, said_by};
+ghost use Rattle.oauth2_resource_server.specs.Questions.{Asks, StepsOver, is_unanswered};
 
 use jiff::Timestamp;
-use oauth2::basic::{
-    BasicErrorResponse, BasicRevocationErrorResponse, BasicTokenIntrospectionResponse,
-    BasicTokenResponse,
-};
+use oauth2::basic::{BasicErrorResponse, BasicRevocationErrorResponse, BasicTokenResponse};
 use oauth2::{
-    AccessToken, EndpointNotSet, EndpointState, ErrorResponse, RequestTokenError, Scope,
+    AccessToken, EndpointNotSet, EndpointState, ErrorResponse, RequestTokenError,
     StandardRevocableToken, TokenIntrospectionResponse,
 };
-use oauth2_http1::Connect;
-use oauth2_http1_connections::{KeepAliveClient, KeepAliveError};
-use oauth2_introspection_cache::IntrospectionCache;
+use oauth2_http1_connections::{KeepAliveClient, KeepAliveConnect, KeepAliveError};
+use oauth2_introspection_cache::{
+    AcceptedTokens, ConfirmedIntrospectionResponse, IntrospectionCache, NotAuthorized,
+    TellsConfirmation, decision,
+};
 use std::alloc::Global;
 
 /// Asks an introspection endpoint about the tokens that a resource server is sent. The type
@@ -39,8 +38,8 @@ where
     pub http_client: KeepAliveClient<C, S>,
 }
 
-/// The questions of a resource server whose authorization server uses no extension, for a
-/// `BasicClient` whose other endpoints are in these states.
+/// The questions of a resource server whose authorization server uses no extension but those that
+/// bind tokens to keys, for a `ResourceServerClient` whose other endpoints are in these states.
 pub type BasicResourceServer<
     'a,
     C,
@@ -53,7 +52,7 @@ pub type BasicResourceServer<
     'a,
     BasicErrorResponse,
     BasicTokenResponse,
-    BasicTokenIntrospectionResponse,
+    ConfirmedIntrospectionResponse,
     StandardRevocableToken,
     BasicRevocationErrorResponse,
     A,
@@ -85,7 +84,7 @@ where
     D: EndpointState,
     R: EndpointState,
     T: EndpointState,
-    C: Connect,
+    C: KeepAliveConnect,
 {
     /// Whether a token is active. If an answer is kept that may be used, nothing is sent. Else the
     /// server is asked; and once more, over another connection, if the connection was kept from an
@@ -95,7 +94,7 @@ where
         token: &AccessToken,
         now: Timestamp,
     ) -> Result<bool, RequestTokenError<KeepAliveError<C::Error>, TE>>
-        ensures asks { Asks (λ rule. AsksOnce TIR.meaning TE.meaning (StepsOver C.opens
+        ensures asks { Asks (λ rule. AsksOnce TIR.meaning TE.meaning (StepsOver C.opens C.looks
             C.Stream.contents C.Stream.remaining C.Stream.reads C.Stream.writes C.Stream.flushes)
             (answer_of rule TIR.reading TE.reading))
             TIR.active TIR.exp self.old.cache token.now now.nanosecond
@@ -114,28 +113,6 @@ where
         first
     }
 
-    /// Whether a request with this token may do what needs this scope: whether the token is active,
-    /// and the answer that is kept for it names the scope.
-    pub fn is_allowed(
-        &mut self,
-        token: &AccessToken,
-        scope: &str,
-        now: Timestamp,
-    ) -> Result<bool, RequestTokenError<KeepAliveError<C::Error>, TE>>
-        ensures decides { Decides (λ rule. AsksOnce TIR.meaning TE.meaning (StepsOver C.opens
-            C.Stream.contents C.Stream.remaining C.Stream.reads C.Stream.writes C.Stream.flushes)
-            (answer_of rule TIR.reading TE.reading))
-            TIR.active TIR.exp TIR.scopes scope.now self.old.cache token.now now.nanosecond
-            self.old.http_client result self.new.http_client self.new.cache }
-        ensures alloc { self.new.alloc ≡ self.old.alloc }
-    {
-        match self.is_active(token, now) {
-            Ok(true) => Ok(is_in_scope(self.cache.kept_answer(token), scope)),
-            Ok(false) => Ok(false),
-            Err(error) => Err(error),
-        }
-    }
-
     /// Forgets what is kept for a token, as when its user signs out or the server says that it was
     /// revoked. The next question about it asks the server.
     pub fn forget(&mut self, token: &AccessToken)
@@ -147,6 +124,55 @@ where
     }
 }
 
+impl<'a, TE, TR, TIR, RT, TRE, A, D, R, T, C> ResourceServer<
+    'a,
+    TE,
+    TR,
+    TIR,
+    RT,
+    TRE,
+    A,
+    D,
+    R,
+    T,
+    C,
+    C::Stream,
+>
+where
+    TE: ErrorResponse + Drop,
+    TIR: TellsConfirmation + Drop,
+    A: EndpointState,
+    D: EndpointState,
+    R: EndpointState,
+    T: EndpointState,
+    C: KeepAliveConnect,
+{
+    /// Decides whether a request with this token, which needs all these scopes, is authorized. It
+    /// calls `is_active`, and checks the answer that is kept then. Any error means that the request
+    /// must not be served.
+    pub fn authorize(
+        &mut self,
+        token: &AccessToken,
+        accepted: &AcceptedTokens<TIR::TokenType>,
+        needed: &[&str],
+        now: Timestamp,
+    ) -> Result<(), NotAuthorized<KeepAliveError<C::Error>, TE>>
+        ensures decides { Decides (λ answer after next. Asks
+            (λ rule. AsksOnce TIR.meaning TE.meaning (StepsOver C.opens C.looks C.Stream.contents
+            C.Stream.remaining C.Stream.reads C.Stream.writes C.Stream.flushes)
+            (answer_of rule TIR.reading TE.reading))
+            TIR.active TIR.exp self.old.cache token.now now.nanosecond
+            self.old.http_client answer after next)
+            (judged_if_any TIR.TokenType.eq accepted.now (map (λ scope. scope.now) needed.now)
+            now.nanosecond (said_by TIR.active TIR.exp TIR.iss TIR.aud TIR.token_type TIR.is_bound
+            TIR.scopes)) token.now result self.new.http_client self.new.cache }
+        ensures alloc { self.new.alloc ≡ self.old.alloc }
+    {
+        let active = self.is_active(token, now);
+        decision(active, self.cache.check_kept(token, accepted, needed, now))
+    }
+}
+
 // Whether a request went over a connection that was used before, and no byte of a reply came.
 fn is_unanswered<E, TE>(found: &Result<bool, RequestTokenError<KeepAliveError<E>, TE>>) -> bool
     ensures { result ≡ is_unanswered found.now }
@@ -155,28 +181,4 @@ fn is_unanswered<E, TE>(found: &Result<bool, RequestTokenError<KeepAliveError<E>
         Err(RequestTokenError::Request(KeepAliveError::Unanswered { .. })) => true,
         _ => false,
     }
-}
-
-// Whether the answer for a token names a scope.
-fn is_in_scope<TIR: TokenIntrospectionResponse>(answer: Option<&TIR>, scope: &str) -> bool
-    ensures { result ≡ is_in_scope TIR.scopes scope.now (option_copied answer.entry) }
-{
-    match answer {
-        Some(answer) => match answer.scopes() {
-            Some(scopes) => is_among(scopes.as_slice(), scope),
-            None => false,
-        },
-        None => false,
-    }
-}
-
-fn is_among(scopes: &[Scope], scope: &str) -> bool
-    ensures { result ≡ is_among scope.now scopes.now }
-{
-    for each in scopes {
-        if each.as_str() == scope {
-            return true;
-        }
-    }
-    false
 }

@@ -8,7 +8,7 @@ pub returns : goal.returns
 returns g c =
     asks_where_unknown
     (λ rule. AsksOnce g.TIR.FromJson.meaning g.TE.FromJson.meaning
-    (StepsOver g.C.Connect.opens g.C.Stream.Transmit.contents g.C.Stream.Receive.remaining g.C.Stream.Receive.reads
+    (StepsOver g.C.Connect.opens g.C.KeepAliveConnect.looks g.C.Stream.Transmit.contents g.C.Stream.Receive.remaining g.C.Stream.Receive.reads
     g.C.Stream.Transmit.writes g.C.Stream.Transmit.flushes)
     (answer_of rule g.TIR.FromJson.reading g.TE.FromJson.reading))
     g.TIR.TokenIntrospectionResponse.active g.TIR.TokenIntrospectionResponse.exp
