@@ -14,6 +14,11 @@ pub record SourceCall : Type 0 where
   pub key_id : Option (List ℕ)
   pub asks : Bool
 
+-- a call at a moment that asks a source for a key of this name, or for no certain one
+abbrev pub call_at : Source → Option (List ℕ) → ℤ → SourceCall
+call_at source key_id now =
+    record { now = now; key_id = key_id; asks = is_due (found_at source now) key_id now }
+
 -- calls that come no earlier than a moment
 abbrev pub AreSince : ℤ → List SourceCall → Type 0
 AreSince moment calls = All (λ call. IsTrue (int_le moment call.now)) calls

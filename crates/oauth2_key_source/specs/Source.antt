@@ -154,6 +154,14 @@ module _ {RE T C : Type 0} (asks : KeySetQuery → C → Result (List ListedKey)
   SourceAnswers Gives source key_id now before (Err error) after kept =
       SourceCalls source key_id now before (Err error) after kept
 
+  -- the same with the value as an `Option`, and the error in a slot, which is `None` where there is a value
+  abbrev pub SourceAnswersOr : {A : Type 0} → (List ListedKey → A → Type 0)
+      → Source → Option (List ℕ) → ℤ → C → Option A → Option (KeySourceError RE T) → C → Source → Type 0
+  SourceAnswersOr Gives source key_id now before (Some value) fault after kept =
+      (fault ≡ None) × SourceAnswers Gives source key_id now before (Ok value) after kept
+  SourceAnswersOr Gives source key_id now before None fault after kept =
+      IsSomeAnd fault (λ error. SourceCalls source key_id now before (Err error) after kept)
+
   -- a token is verified by the set that is kept after a call of the source for its `kid`
   abbrev pub SourceVerifies : Source → SignatureAlgorithm → DecodedToken → ℤ → C
       → Result Unit (VerifyError RE T) → C → Source → Type 0

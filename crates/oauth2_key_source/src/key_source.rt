@@ -14,6 +14,7 @@ ghost use Rattle.std.specs.Prelude.{
   option_copied,
   option_map,
 };
+ghost use Rattle.std.specs.Borrow.{sem};
 ghost use Rattle.std.specs.Duration.{as_nanos};
 ghost use Rattle.oauth2_openid.specs.Seen.{token_of};
 ghost use Rattle.oauth2_key_source.specs.Request.{AsksForKeys};
@@ -93,6 +94,8 @@ impl Model for KeySource {
 }
 
 impl KeySource {
+    ghost use Rattle.oauth2_key_source.specs.Lending.{LendsKeys};
+
     /// A source that keeps no set yet. A set that is older than `lifetime` is asked for again.
     /// After a request no other one is made until `wait` has passed, whatever came of it.
     pub fn new(request: KeySetRequest, lifetime: Duration, wait: Duration) -> KeySource
@@ -281,9 +284,39 @@ impl KeySource {
         }
     }
 
-    /// Calls `keep_keys` for no certain key, and returns the kept set, or the error of that call.
-    /// This contract does not say what the source keeps afterwards, nor does the next one; use
-    /// `keep_keys` and `kept_keys` to know it too.
+    /// Calls `keep_keys`, and lends the kept set. If that call fails, nothing is lent, and its error
+    /// is in `fault`, which else is `None`. Once the set is given back, the source is as that call
+    /// left it.
+    pub fn lend_keys<C: SyncHttpClient>(
+        &mut self,
+        alloc: Global,
+        key_id: Option<&str>,
+        now: Timestamp,
+        http_client: &mut C,
+        fault: &mut Option<KeySourceError<C::Error>>,
+    ) -> Option<&JsonWebKeySet>
+        requires { C.is_ready http_client.old }
+        ensures* rests { sem 𝓛 (LendsKeys
+            (AsksForKeys ⟦<BasicErrorResponse as FromJson>⟧.meaning C.step) self.entry
+            (option_copied key_id.entry) now.nanosecond http_client.old result fault.new
+            http_client.new) }
+        ensures ready { C.is_ready http_client.new }
+    {
+        match self.keep_keys(alloc, key_id, now, http_client) {
+            Ok(()) => {
+                *fault = None;
+                Some(self.kept_keys().unwrap())
+            }
+            Err(error) => {
+                *fault = Some(error);
+                None
+            }
+        }
+    }
+
+    /// Calls `lend_keys` for no certain key, and returns the kept set, or the error. This contract
+    /// does not say what the source keeps afterwards, nor does the next one: that of `lend_keys`
+    /// does.
     pub fn keys<C: SyncHttpClient>(
         &mut self,
         alloc: Global,
@@ -297,14 +330,15 @@ impl KeySource {
             self.old None now.nanosecond http_client.old result http_client.new kept }
         ensures ready { C.is_ready http_client.new }
     {
-        match self.keep_keys(alloc, None, now, http_client) {
-            Ok(()) => Ok(self.kept_keys().unwrap()),
-            Err(error) => Err(error),
+        let mut fault = None;
+        match self.lend_keys(alloc, None, now, http_client, &mut fault) {
+            Some(keys) => Ok(keys),
+            None => Err(fault.unwrap()),
         }
     }
 
-    /// Calls `keep_keys` for a key of this name, and returns the kept set, or the error of that
-    /// call. If nobody has such a key, the set is returned without it.
+    /// Calls `lend_keys` for a key of this name, and returns the kept set, or the error. If nobody
+    /// has such a key, the set is returned without it.
     pub fn keys_for<C: SyncHttpClient>(
         &mut self,
         alloc: Global,
@@ -320,9 +354,10 @@ impl KeySource {
             http_client.old result http_client.new kept }
         ensures ready { C.is_ready http_client.new }
     {
-        match self.keep_keys(alloc, Some(key_id), now, http_client) {
-            Ok(()) => Ok(self.kept_keys().unwrap()),
-            Err(error) => Err(error),
+        let mut fault = None;
+        match self.lend_keys(alloc, Some(key_id), now, http_client, &mut fault) {
+            Some(keys) => Ok(keys),
+            None => Err(fault.unwrap()),
         }
     }
 

@@ -17,7 +17,7 @@ pub use key_set_error::KeySetError;
 pub use key_source::KeySource;
 pub use laws::{
     each_end_is_within_the_wait, each_flood_asks_once, each_other_call_sends_nothing,
-    each_two_requests_are_apart,
+    each_two_requests_are_apart, lent_keys_are_a_call,
 };
 pub use request::KeySetRequest;
 pub use source_error::KeySourceError;
