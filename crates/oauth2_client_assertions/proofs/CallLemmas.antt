@@ -7,6 +7,7 @@ use Rattle.std.proofs.lemmas.Bool.{false≢true}
 use Rattle.oauth2_wire.specs.Reply.{HttpResponse}
 use Rattle.oauth2_wire.specs.Request.{HttpRequest, view_of}
 use Rattle.oauth2_client_assertions.specs.AssertingCall.{Asserter, CallsAsserting, SendsWith, inner_result}
+use Rattle.oauth2_client_assertions.specs.Endpoints.{is_endpoint}
 use Rattle.oauth2_client_assertions.specs.Requests.{authenticates, is_form_post}
 use Rattle.oauth2_client_assertions.specs.private.Asking.{Asks, IsAsserted}
 use Rattle.oauth2_client_assertions.specs.declared.assertion_type.AssertionType.{AssertionType}
@@ -42,21 +43,21 @@ module _ {C S E SE : Type 0} (step : C → HttpRequest → Result HttpResponse E
       → CallsAsserting step asks before request result (record held { client = called })
   passes {held = held} called request result answer same lacks_it stepped is =
       subst (λ (b : Asserter C S). CallsAsserting step asks b request result (record held { client = called })) same
-      (refl, match_false _ _ _ lacks_it ((answer, stepped, is), refl))
+      (refl, refl, match_false _ _ _ lacks_it ((answer, stepped, is), refl))
 
   pub sends : {held before : Asserter C S} (asked : S) (called : C) (request sent : HttpRequest) (result : Result HttpResponse (AssertingError E SE)) (answer : Result HttpResponse E)
-      → held ≡ before → is_form_post (view_of request) ≡ true → authenticates (view_of request) ≡ false
+      → held ≡ before → is_form_post (view_of request) ≡ true → is_endpoint held.endpoints (view_of request).target ≡ true → authenticates (view_of request) ≡ false
       → Asks {E = E} asks held.assertion_type (view_of request) held.source (Ok sent) asked
       → step held.client sent answer called → result ≡ inner_result answer
       → CallsAsserting step asks before request result (record held { client = called; source = asked })
-  sends {held = held} asked called request sent result answer same has_form not_yet asking stepped is =
+  sends {held = held} asked called request sent result answer same has_form for_it not_yet asking stepped is =
       subst (λ (b : Asserter C S). CallsAsserting step asks b request result (record held { client = called; source = asked })) same
-      (refl, match_true _ _ _ has_form (match_false _ _ _ not_yet (asking.0, asking.1, sent_with held.assertion_type request sent asking.0 held.client called result answer asking.2 stepped is)))
+      (refl, refl, match_true _ _ _ has_form (match_true _ _ _ for_it (match_false _ _ _ not_yet (asking.0, asking.1, sent_with held.assertion_type request sent asking.0 held.client called result answer asking.2 stepped is))))
 
   pub fails : {held before : Asserter C S} (asked : S) (request : HttpRequest) (fault : AssertingError E SE)
-      → held ≡ before → is_form_post (view_of request) ≡ true → authenticates (view_of request) ≡ false
+      → held ≡ before → is_form_post (view_of request) ≡ true → is_endpoint held.endpoints (view_of request).target ≡ true → authenticates (view_of request) ≡ false
       → Asks {E = E} asks held.assertion_type (view_of request) held.source (Err fault) asked
       → CallsAsserting step asks before request (Err fault) (record held { source = asked })
-  fails {held = held} asked request fault same has_form not_yet asking =
+  fails {held = held} asked request fault same has_form for_it not_yet asking =
       subst (λ (b : Asserter C S). CallsAsserting step asks b request (Err fault) (record held { source = asked })) same
-      (refl, match_true _ _ _ has_form (match_false _ _ _ not_yet (asking.0, asking.1, not_sent held.assertion_type request asking.0 held.client fault asking.2)))
+      (refl, refl, match_true _ _ _ has_form (match_true _ _ _ for_it (match_false _ _ _ not_yet (asking.0, asking.1, not_sent held.assertion_type request asking.0 held.client fault asking.2))))

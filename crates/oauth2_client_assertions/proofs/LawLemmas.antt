@@ -1,15 +1,24 @@
 -- Each request of a client without a secret gets an assertion.
 use Rattle.std.proofs.Common.{◌≡◌, ℕ, List, [], ◌++◌, Bool, true, false, ◌||◌, refl, sym, ap, ◌∙◌}
-use Rattle.std.specs.Prelude.{Option, Some, None, codes, is_some, bytes_eq, ◌&&◌}
+use Rattle.std.specs.Prelude.{Option, Some, None, codes, is_some, bytes_eq, ◌&&◌, ◌∷◌, not, length, nat_eq, ◌==◌, if◌then◌else◌}
+use Rattle.std.specs.Cmp.Lexicographic.{pointwise}
+use Rattle.std.specs.Option.{option_eq}
+use Rattle.std.specs.Ordering.{on}
 use Rattle.std.proofs.lemmas.Bool.{false≢true}
 use Rattle.std.proofs.lemmas.List.Folds.{list_any-append}
 use Rattle.http_header.specs.HeaderMap.{get}
+use Rattle.http_uri.specs.declared.uri.Uri.{Uri}
+use Rattle.http_uri.specs.ByteClasses.{lowercase}
+use Rattle.http_uri.specs.Grammar.{path_of, query_of}
+use Rattle.http_uri.specs.Uri.{Spells, uri_authority, uri_data, uri_eq, uri_eq_equiv, uri_path, uri_query, uri_scheme}
+use Rattle.http_uri.proofs.Theorems.{Spells_unique}
 use Rattle.oauth2_form.specs.Pairs.{Pair}
 use Rattle.oauth2_wire.specs.declared.request.AuthType.{AuthType}
 use Rattle.oauth2_wire.specs.declared.request.AuthType.TheVariants.{RequestBody, BasicAuth}
 use Rattle.oauth2_wire.specs.Expected.{Configuration, authorization_header, basic_credentials, body_credentials, expected_basic, expected_headers, expected_pairs, headers_before, optional_pair}
 use Rattle.oauth2_wire.specs.Request.{authorization_of, basic_of}
 use Rattle.oauth2_client_assertions.specs.Assertions.{assertion_pairs}
+use Rattle.oauth2_client_assertions.specs.Endpoints.{is_endpoint}
 use Rattle.oauth2_client_assertions.specs.Laws.{EachRequestIsAsserted}
 use Rattle.oauth2_client_assertions.specs.Requests.{has_credential, is_credential_name, is_form}
 
@@ -66,16 +75,49 @@ no_credential_sent c no_secret none =
     let with_redirect = joined (c.own_pairs ++ scope ++ credentials) redirect with_id (no_redirect c.redirect_uri) in
     joined (c.own_pairs ++ scope ++ credentials ++ redirect) c.extra_params with_redirect (second_not _ _ either)
 
+-- ---- its target is that of the endpoint
+
+-- whether these parts are equal to those of a target
+abbrev parts_eq : Option (List ℕ) → Option (List ℕ) → List ℕ → Uri → Bool
+parts_eq scheme authority kept v =
+    option_eq (on lowercase (pointwise nat_eq)) scheme (uri_scheme v)
+    && (option_eq (on lowercase (pointwise nat_eq)) authority (uri_authority v)
+    && (pointwise nat_eq (if not (length kept == 0) || is_some scheme then path_of kept else []) (uri_path v)
+    && option_eq (pointwise nat_eq) (query_of kept) (uri_query v)))
+
+-- a target with the same parts is equal
+same_parts : (u v : Uri) → uri_scheme u ≡ uri_scheme v → uri_authority u ≡ uri_authority v → uri_data u ≡ uri_data v → uri_eq u v ≡ uri_eq v v
+same_parts u v scheme authority kept =
+    ap (λ x. parts_eq x (uri_authority u) (uri_data u) v) scheme
+    ∙ ap (λ x. parts_eq (uri_scheme v) x (uri_data u) v) authority
+    ∙ ap (λ x. parts_eq (uri_scheme v) (uri_authority v) x v) kept
+
+second : (s t : Bool) → t ≡ true → (s || t) ≡ true
+second true t is = refl
+second false t is = is
+
+first : (s t : Bool) → s ≡ true → (s || t) ≡ true
+first s t is = ap (λ b. b || t) is
+
+pub is_one : (text : List ℕ) (before after : List Uri) (endpoint target : Uri) → Spells text endpoint → Spells text target
+    → is_endpoint (before ++ endpoint ∷ after) target ≡ true
+is_one text before after endpoint target named spelled =
+    let same = Spells_unique text target endpoint spelled named in
+    let equal : uri_eq target endpoint ≡ true = same_parts target endpoint same.0 same.1 same.2 ∙ uri_eq_equiv.refl endpoint in
+    list_any-append (uri_eq target) before (endpoint ∷ after)
+    ∙ second _ _ (first _ _ equal)
+
 -- ---- so an assertion is added
 
 pub asserted : EachRequestIsAsserted
-asserted c text v sent kind assertion request no_secret none extended =
+asserted c text before after endpoint v sent kind assertion named request no_secret none extended =
     let headers = request.headers ∙ headers_without c no_secret in
     let no_header : authorization_of v ≡ None = ap (λ h. get h (codes "authorization")) headers in
     record {
       is_form_post =
           ap (λ m. bytes_eq m (codes "POST") && is_form (get v.headers (codes "content-type"))) request.method
           ∙ ap (λ h. is_form (get h (codes "content-type"))) headers;
+      is_for_an_endpoint = is_one text before after endpoint v.target named request.target;
       does_not_authenticate =
           neither _ _ (ap is_some no_header) (ap has_credential request.form ∙ no_credential_sent c no_secret none);
       form = extended.form ∙ ap (λ pairs. pairs ++ assertion_pairs kind assertion) request.form;

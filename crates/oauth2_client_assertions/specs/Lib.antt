@@ -1,5 +1,6 @@
 pub mod AssertingCall
 pub mod Assertions
+pub mod Endpoints
 pub mod ErrorTexts
 pub mod Laws
 pub mod Requests

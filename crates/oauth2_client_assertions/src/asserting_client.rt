@@ -1,4 +1,4 @@
-//! A client that adds an assertion to each request.
+//! A client that adds an assertion to each form that it sends to its server.
 
 ghost use Rattle.std.specs.Prelude.{◌≡◌};
 ghost use Rattle.oauth2_wire.specs.Request.{view_of};
@@ -9,18 +9,21 @@ use crate::assertion_source::AssertionSource;
 use crate::assertion_type::AssertionType;
 use crate::error::AssertingError;
 use crate::request::{authenticates, is_form_post, with_assertion};
+use crate::server_endpoints::ServerEndpoints;
 use oauth2_wire::{AlwaysReady, HttpRequest, HttpResponse, SyncHttpClient};
 use std::alloc::Global;
 use std::marker::Model;
 
-/// A client that authenticates by assertions: it adds one to each POST of a form. All other
-/// requests are sent as they are.
+/// A client that authenticates by assertions: it adds one to each POST of a form to an endpoint of
+/// its server. A POST of a form to another target is refused. All other requests, such as a GET,
+/// are sent as they are.
 ///
 /// Contracts see it as an `Asserter`.
 pub struct AssertingClient<C, S> {
     alloc: Global,
     client: C,
     source: S,
+    endpoints: ServerEndpoints,
     assertion_type: AssertionType,
 }
 
@@ -30,6 +33,7 @@ impl<C: Drop, S: Drop> Drop for AssertingClient<C, S> {
             alloc: _,
             client: _,
             source: _,
+            endpoints: _,
             assertion_type: _,
         } = self;
     }
@@ -43,16 +47,24 @@ impl<C, S> Model for AssertingClient<C, S> {
     ghost view = { λ c. record {
       client = c.client;
       source = c.source;
+      endpoints = c.endpoints;
       assertion_type = c.assertion_type;
     } };
 }
 
 impl<C, S> AssertingClient<C, S> {
-    /// Wraps a client. The assertions of the source are JWTs.
-    pub fn new(alloc: Global, client: C, source: S) -> AssertingClient<C, S>
+    /// Wraps a client. The assertions of the source are JWTs, and they are sent to these endpoints
+    /// alone.
+    pub fn new(
+        alloc: Global,
+        client: C,
+        source: S,
+        endpoints: ServerEndpoints,
+    ) -> AssertingClient<C, S>
         ensures { result ≡ record {
           client = client;
           source = source;
+          endpoints = endpoints;
           assertion_type = AssertionType.JwtBearer;
         } }
     {
@@ -60,6 +72,7 @@ impl<C, S> AssertingClient<C, S> {
             alloc,
             client,
             source,
+            endpoints,
             assertion_type: AssertionType::JwtBearer,
         }
     }
@@ -82,6 +95,7 @@ impl<C, S> AssertingClient<C, S> {
             alloc: _,
             client,
             source,
+            endpoints: _,
             assertion_type: _,
         } = self;
         (client, source)
@@ -103,6 +117,9 @@ impl<C: SyncHttpClient, S: AssertionSource> SyncHttpClient for AssertingClient<C
     ) -> Result<HttpResponse, AssertingError<C::Error, S::Error>> {
         if !is_form_post(&request) {
             return inner_result(self.client.call(request));
+        }
+        if !self.endpoints.is_endpoint(request.uri()) {
+            return Err(AssertingError::OtherTarget);
         }
         if authenticates(&request) {
             return Err(AssertingError::OtherAuthentication);

@@ -6,6 +6,9 @@ use std::fmt;
 /// Why a call of an `AssertingClient` returned no reply.
 #[derive(Debug, Drop)]
 pub enum AssertingError<C, S> {
+    /// The request is a form for a target that is no endpoint of the server. It was not sent, and
+    /// the source was not asked.
+    OtherTarget,
     /// The request authenticates the client otherwise already (RFC 6749, section 2.3). It was not
     /// sent, and the source was not asked.
     OtherAuthentication,
@@ -26,6 +29,9 @@ impl<C: fmt::Display, S: fmt::Display> fmt::Display for AssertingError<C, S> {
 
     fn fmt<W: fmt::Write>(&self, f: &mut fmt::Formatter<W>) -> fmt::Result {
         match self {
+            AssertingError::OtherTarget => {
+                f.write_str("the request goes to no endpoint of the server")
+            }
             AssertingError::OtherAuthentication => {
                 f.write_str("the request authenticates the client already")
             }

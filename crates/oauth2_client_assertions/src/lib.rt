@@ -1,5 +1,5 @@
 //! Authentication of a client by an assertion (RFC 7521, section 4.2): an HTTP client that adds one
-//! to each request, from a source that makes it.
+//! to each form that it sends to an endpoint of its server, from a source that makes it.
 
 #![tactic(auto)]
 
@@ -10,9 +10,11 @@ mod error;
 mod form_names;
 mod law;
 mod request;
+mod server_endpoints;
 
 pub use asserting_client::AssertingClient;
 pub use assertion_source::AssertionSource;
 pub use assertion_type::AssertionType;
 pub use error::AssertingError;
 pub use law::each_request_is_asserted;
+pub use server_endpoints::ServerEndpoints;

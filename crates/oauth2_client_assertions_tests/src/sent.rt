@@ -1,10 +1,12 @@
 //! What is sent.
 
-use crate::requests::{form, get, of_a_client, post, with_header};
+use crate::requests::{
+    TOKEN_ENDPOINT, form, form_to, get_from, of_a_client, post, post_to, with_header,
+};
 use crate::source::{NoFile, Written};
-use oauth2_client_assertions::{AssertingClient, AssertingError, AssertionType};
-use oauth2_tests_support::{NoReply, OneReply, check, check_display, check_equal, check_text};
-use oauth2_wire::{HttpRequest, SyncHttpClient};
+use oauth2_client_assertions::{AssertingClient, AssertingError, AssertionType, ServerEndpoints};
+use oauth2_tests_support::{NoReply, OneReply, check, check_display, check_equal, check_text, url};
+use oauth2_wire::{HttpRequest, RequestFault, SyncHttpClient};
 use std::alloc::Global;
 use std::test::Fail;
 
@@ -25,6 +27,13 @@ impl Drop for Outcome {
     }
 }
 
+// The endpoints of a server: those for tokens and for revocation.
+fn endpoints(alloc: Global) -> Result<ServerEndpoints, Fail> {
+    let token = url(alloc, TOKEN_ENDPOINT)?;
+    let revocation = url(alloc, "https://server.example.com/revoke?tenant=1")?;
+    Ok(ServerEndpoints::new(alloc, &token)?.add(alloc, &revocation)?)
+}
+
 fn called(
     alloc: Global,
     assertion_type: AssertionType,
@@ -32,9 +41,9 @@ fn called(
     request: HttpRequest,
 ) -> Result<Outcome, Fail> {
     let reply = OneReply::with_body(alloc, 200, "{}")?;
-    let mut client = AssertingClient::new(alloc, reply, Written::new(assertion)).set_assertion_type(
-        assertion_type,
-    );
+    let source = Written::new(assertion);
+    let client = AssertingClient::new(alloc, reply, source, endpoints(alloc)?);
+    let mut client = client.set_assertion_type(assertion_type);
     let error = client.call(request).err();
     let (client, source) = client.into_parts();
     Ok(Outcome {
@@ -116,8 +125,72 @@ fn check_as_it_is(alloc: Global, request: HttpRequest, body: &str) -> Result<(),
 #[test]
 fn other_requests(rt: HostRuntime) -> Result<(), Fail> {
     let alloc = rt.alloc();
-    check_as_it_is(alloc, get(alloc, "a=b")?, "a=b")?;
-    check_as_it_is(alloc, post(alloc, "application/json", "{}")?, "{}")
+    check_as_it_is(alloc, get_from(alloc, TOKEN_ENDPOINT, "a=b")?, "a=b")?;
+    check_as_it_is(alloc, post(alloc, "application/json", "{}")?, "{}")?;
+    let keys = "https://keys.example/jwks";
+    check_as_it_is(alloc, get_from(alloc, keys, "a=b")?, "a=b")?;
+    check_as_it_is(alloc, post_to(alloc, keys, "application/json", "{}")?, "{}")
+}
+
+// The endpoint that was added, and targets that are equal but for the case of scheme and host.
+#[test]
+fn targets_of_the_server(rt: HostRuntime) -> Result<(), Fail> {
+    let alloc = rt.alloc();
+    for target in [
+        "https://server.example.com/revoke?tenant=1",
+        "HTTPS://Server.example.com/token",
+    ] {
+        let request = form_to(alloc, target, "a=b")?;
+        let outcome = called(alloc, AssertionType::JwtBearer, Some("a"), request)?;
+        check_equal(outcome.source.calls, 1)?;
+        check(outcome.error.is_none(), target)?;
+    }
+    Ok(())
+}
+
+// RFC 7523, section 3: an assertion is for one server. No other one is sent it, nor is the source
+// asked, also if the request authenticates the client already.
+fn check_other_target(alloc: Global, target: &str, body: &str) -> Result<(), Fail> {
+    let request = form_to(alloc, target, body)?;
+    let outcome = called(alloc, AssertionType::JwtBearer, Some("a"), request)?;
+    match &outcome.error {
+        Some(AssertingError::OtherTarget) => {
+            check_equal(outcome.source.calls, 0)?;
+            check_equal(outcome.client.calls, 0)
+        }
+        _ => Err(Fail::new(format_args!("it is sent to {target}"))),
+    }
+}
+
+#[test]
+fn other_targets(rt: HostRuntime) -> Result<(), Fail> {
+    let alloc = rt.alloc();
+    for target in [
+        "https://other.example/token",
+        "https://server.example.com.other.example/token",
+        "https://server.example.com@other.example/token",
+        "https://server.example.com:8443/token",
+        "http://server.example.com/token",
+        "https://server.example.com/Token",
+        "https://server.example.com/token/",
+        "https://server.example.com/token?a",
+        "https://server.example.com/revoke",
+        "/token",
+    ] {
+        check_other_target(alloc, target, "a=b")?;
+    }
+    check_other_target(alloc, "https://other.example/token", "client_secret=a")
+}
+
+// A URL that is no target of a request is no endpoint.
+#[test]
+fn endpoints_of_other_schemes(rt: HostRuntime) -> Result<(), Fail> {
+    let alloc = rt.alloc();
+    let mail = url(alloc, "mailto:?a")?;
+    match endpoints(alloc)?.add(alloc, &mail) {
+        Err(fault) => check_equal(fault, RequestFault::NotHttp),
+        Ok(_) => Err(Fail::new(format_args!("it is taken"))),
+    }
 }
 
 fn check_refused(alloc: Global, request: HttpRequest) -> Result<(), Fail> {
@@ -189,7 +262,11 @@ fn no_assertion(rt: HostRuntime) -> Result<(), Fail> {
 #[test]
 fn texts(rt: HostRuntime) -> Result<(), Fail> {
     let alloc = rt.alloc();
-    let errors: [(AssertingError<NoFile, NoFile>, &str); 3] = [
+    let errors: [(AssertingError<NoFile, NoFile>, &str); 4] = [
+        (
+            AssertingError::OtherTarget,
+            "the request goes to no endpoint of the server",
+        ),
         (
             AssertingError::OtherAuthentication,
             "the request authenticates the client already",

@@ -1,4 +1,5 @@
 pub mod Assertion
+pub mod Audience
 pub mod ErrorTexts
 pub mod Signing
 pub mod private

@@ -4,6 +4,8 @@ use Rattle.std.specs.declared.alloc.Global.{Global}
 use Rattle.jiff.specs.Types.{Timestamp}
 use Rattle.oauth2_types.specs.Pkce.{base64url}
 use Rattle.oauth2_client_secret_jwt.specs.Assertion.{claims_text, second_since_1970, signed_jwt}
+use Rattle.oauth2_client_secret_jwt.specs.Audience.{audience_text}
+use Rattle.oauth2_client_secret_jwt.specs.declared.audience.Audience.{Audience}
 use Rattle.oauth2_client_secret_jwt.specs.declared.error.ClientSecretJwtError.{ClientSecretJwtError}
 use Rattle.oauth2_client_secret_jwt.specs.declared.error.ClientSecretJwtError.TheVariants as error
 
@@ -12,7 +14,7 @@ use Rattle.oauth2_client_secret_jwt.specs.declared.error.ClientSecretJwtError.Th
 pub record Signer (K R : Type 0) : Type 0 where
   pub client_id : List ℕ
   pub client_secret : List ℕ
-  pub audience : List ℕ
+  pub audience : Audience
   pub lifetime : ℕ
   pub clock : K
   pub generator : R
@@ -21,7 +23,7 @@ pub record Signer (K R : Type 0) : Type 0 where
 abbrev pub jwt_of : {K R : Type 0} → Signer K R → ℕ → List ℕ → List ℕ
 jwt_of s second drawn =
     signed_jwt s.client_secret
-    (claims_text s.client_id s.audience (base64url drawn) second (second + s.lifetime))
+    (claims_text s.client_id (audience_text s.audience) (base64url drawn) second (second + s.lifetime))
 
 -- a clock of the runtime shows no time before 1970, and stays as it was
 abbrev pub ShowsTimeSince1970 : {C E : Type 0} → C → Result Timestamp E → C → Type 0
@@ -35,10 +37,16 @@ IsReadOnce reads before second after =
     (moment : Timestamp) × reads before.clock (Ok moment) after.clock × (second_since_1970 moment.nanosecond ≡ Some second)
 
 -- the generator was called once, and drew these 16 bytes
-abbrev pub IsDrawnOnce : {K R : Type 0} → (R → List ℕ → R → Type 0) → Signer K R → List ℕ
-    → Signer K R → Type 0
-IsDrawnOnce fills before drawn after =
-    fills before.generator drawn after.generator × (length drawn ≡ 16)
+abbrev pub IsDrawnOnce : {K R RE : Type 0} → (R → Result (List ℕ) RE → R → Type 0) → Signer K R
+    → List ℕ → Signer K R → Type 0
+IsDrawnOnce draws before drawn after =
+    draws before.generator (Ok drawn) after.generator × (length drawn ≡ 16)
+
+-- a generator of `rand_core` fills 16 bytes at once; it says nothing of a call that fails
+abbrev pub FillsBytes : {R RE : Type 0} → (R → List ℕ → R → Type 0) → R → Result (List ℕ) RE → R
+    → Type 0
+FillsBytes fills before (Ok drawn) after = fills before drawn after × (length drawn ≡ 16)
+FillsBytes fills before (Err fault) after = Unit {0}
 
 -- nothing changed but the clock
 abbrev pub KeepsAllButClock : {K R : Type 0} → Signer K R → Signer K R → Type 0
@@ -49,12 +57,12 @@ abbrev pub KeepsSettings : {K R : Type 0} → Signer K R → Signer K R → Type
 KeepsSettings before after =
     after ≡ record before { clock = after.clock; generator = after.generator }
 
-module _ {K R KE RE : Type 0} (reads : K → Result Timestamp KE → K → Type 0) (fills : R → List ℕ → R → Type 0) where
+module _ {K R KE RE : Type 0} (reads : K → Result Timestamp KE → K → Type 0) (draws : R → Result (List ℕ) RE → R → Type 0) where
   -- one call: the clock is read, and then the generator draws; without a time, it is not called
   abbrev pub Signs : Signer K R → Result (String Global) (ClientSecretJwtError KE RE) → Signer K R
       → Type 0
   Signs before (Ok text) after =
-      (second : ℕ) × (drawn : List ℕ) × IsReadOnce reads before second after × IsDrawnOnce fills before drawn after
+      (second : ℕ) × (drawn : List ℕ) × IsReadOnce reads before second after × IsDrawnOnce draws before drawn after
       × (string_bytes text ≡ jwt_of before second drawn) × KeepsSettings before after
   Signs before (Err (error.Clock fault)) after =
       reads before.clock (Err fault) after.clock × KeepsAllButClock before after
@@ -62,7 +70,8 @@ module _ {K R KE RE : Type 0} (reads : K → Result Timestamp KE → K → Type 
       (moment : Timestamp) × reads before.clock (Ok moment) after.clock × (second_since_1970 moment.nanosecond ≡ None)
       × KeepsAllButClock before after
   Signs before (Err (error.Generator fault)) after =
-      (second : ℕ) × IsReadOnce reads before second after × KeepsSettings before after
+      (second : ℕ) × IsReadOnce reads before second after × draws before.generator (Err fault) after.generator
+      × KeepsSettings before after
   Signs before (Err error.Memory) after =
-      (second : ℕ) × (drawn : List ℕ) × IsReadOnce reads before second after × IsDrawnOnce fills before drawn after
+      (second : ℕ) × (drawn : List ℕ) × IsReadOnce reads before second after × IsDrawnOnce draws before drawn after
       × KeepsSettings before after

@@ -6,14 +6,15 @@ ghost use Rattle.oauth2_types.specs.Pkce.{base64url};
 ghost use Rattle.oauth2_client_secret_jwt.specs.Signing.{jwt_of};
 ghost use Rattle.oauth2_client_secret_jwt.specs.private.Steps.{Draws, ReadsSecond};
 
+use crate::audience::Audience;
 use crate::claims::{claims_text, second_since_1970};
 use crate::clock::Clock;
 use crate::error::{ClientSecretJwtError, SecretTooShort};
+use crate::identifier_source::IdentifierSource;
 use crate::signed_jwt::signed_jwt;
 use base64::engine::general_purpose::URL_SAFE_NO_PAD;
 use oauth2_client_assertions::AssertionSource;
 use oauth2_types::{ClientId, ClientSecret};
-use rand_core::TryRng;
 use std::alloc::{AllocError, Global};
 use std::marker::Model;
 
@@ -25,14 +26,14 @@ use std::marker::Model;
 pub struct ClientSecretJwt<K, R> {
     client_id: ClientId,
     client_secret: ClientSecret,
-    audience: String,
+    audience: Audience,
     lifetime: u32,
     clock: K,
     generator: R,
 }
 
 impl<K, R> Model for ClientSecretJwt<K, R> {
-    ghost use Rattle.std.specs.Prelude.{◌≤◌, length, string_bytes};
+    ghost use Rattle.std.specs.Prelude.{◌≤◌, length};
     ghost use Rattle.oauth2_client_secret_jwt.specs.Signing.{Signer};
 
     ghost Value = { Signer K R };
@@ -40,7 +41,7 @@ impl<K, R> Model for ClientSecretJwt<K, R> {
     ghost view = { λ s. record {
       client_id = s.client_id;
       client_secret = s.client_secret;
-      audience = string_bytes s.audience;
+      audience = s.audience;
       lifetime = s.lifetime;
       clock = s.clock;
       generator = s.generator;
@@ -50,13 +51,12 @@ impl<K, R> Model for ClientSecretJwt<K, R> {
 }
 
 impl<K, R> ClientSecretJwt<K, R> {
-    /// A source for this client. Its assertions are for this audience, which is the URL of the token
-    /// endpoint or the server's issuer, and each ends after 60 seconds. The generator draws the
-    /// identifier of each, so it has to be fit for secrets.
+    /// A source for this client. Its assertions are for this audience, and each ends after 60
+    /// seconds. The generator draws the identifier of each, so it has to be fit for secrets.
     pub fn new(
         client_id: ClientId,
         client_secret: ClientSecret,
-        audience: String,
+        audience: Audience,
         clock: K,
         generator: R,
     ) -> Result<ClientSecretJwt<K, R>, SecretTooShort>
@@ -66,7 +66,7 @@ impl<K, R> ClientSecretJwt<K, R> {
         ensures long { 32 ≤ length client_secret → IsOkAnd result (λ s. s ≡ record {
           client_id = client_id;
           client_secret = client_secret;
-          audience = string_bytes audience;
+          audience = audience;
           lifetime = 60;
           clock = clock;
           generator = generator;
@@ -117,12 +117,12 @@ impl<K, R> ClientSecretJwt<K, R> {
     }
 }
 
-impl<K: Clock, R: TryRng> AssertionSource for ClientSecretJwt<K, R> {
+impl<K: Clock, R: IdentifierSource> AssertionSource for ClientSecretJwt<K, R> {
     ghost use Rattle.oauth2_client_secret_jwt.specs.Signing.{Signs};
 
     type Error = ClientSecretJwtError<K::Error, R::Error>;
 
-    ghost step = { Signs K.reads R.may_fill };
+    ghost step = { Signs K.reads R.draws };
 
     fn assertion(
         &mut self,
@@ -157,13 +157,14 @@ fn read_second<K: Clock, E>(clock: &mut K) -> Result<u64, ClientSecretJwtError<K
     }
 }
 
-// Draws 16 bytes at once.
-fn draw<R: TryRng, E>(generator: &mut R) -> Result<[u8; 16], ClientSecretJwtError<E, R::Error>>
-    ensures { Draws R.may_fill generator.old result generator.new }
+// Draws an identifier once.
+fn draw<R: IdentifierSource, E>(
+    generator: &mut R,
+) -> Result<[u8; 16], ClientSecretJwtError<E, R::Error>>
+    ensures { Draws R.draws generator.old result generator.new }
 {
-    let mut drawn = [0u8; 16];
-    match generator.try_fill_bytes(&mut drawn) {
-        Ok(()) => Ok(drawn),
+    match generator.identifier() {
+        Ok(drawn) => Ok(drawn),
         Err(error) => Err(ClientSecretJwtError::Generator(error)),
     }
 }

@@ -1,6 +1,6 @@
 //! Secrets that are refused, and calls without an assertion.
 
-use crate::parts::{Counting, SECRET, Stopped, Ticking};
+use crate::parts::{Counting, SECRET, Stopped, Ticking, issuer};
 use oauth2_client_assertions::AssertionSource;
 use oauth2_client_secret_jwt::{ClientSecretJwt, ClientSecretJwtError, SecretTooShort};
 use oauth2_tests_support::{check, check_display, text};
@@ -17,7 +17,7 @@ fn source(
     Ok(ClientSecretJwt::new(
         ClientId::new(text(alloc, "a")?),
         ClientSecret::new(text(alloc, secret)?),
-        text(alloc, "b")?,
+        issuer(alloc, "https://as.example")?,
         clock,
         generator,
     ))

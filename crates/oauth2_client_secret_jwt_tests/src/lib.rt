@@ -7,6 +7,8 @@ mod clock;
 #[cfg(test)]
 mod failures;
 #[cfg(test)]
+mod issuers;
+#[cfg(test)]
 mod parts;
 #[cfg(test)]
 mod tokens;

@@ -1,9 +1,10 @@
 //! A clock and a generator whose values a test knows, and sources with them.
 
 use jiff::Timestamp;
-use oauth2_client_secret_jwt::{ClientSecretJwt, Clock};
+use oauth2_client_secret_jwt::{Audience, ClientSecretJwt, Clock, IssuerIdentifier};
 use oauth2_tests_support::text;
 use oauth2_types::{ClientId, ClientSecret};
+use oauth2_urls::TokenUrl;
 use rand_core::TryRng;
 use std::alloc::Global;
 use std::fmt;
@@ -73,18 +74,28 @@ impl TryRng for Counting {
     }
 }
 
+/// The issuer with this identifier.
+pub(crate) fn issuer(alloc: Global, identifier: &str) -> Result<Audience, Fail> {
+    Ok(Audience::Issuer(IssuerIdentifier::new(alloc, text(alloc, identifier)?)?))
+}
+
+/// The server with this token endpoint.
+pub(crate) fn token_endpoint(alloc: Global, url: &str) -> Result<Audience, Fail> {
+    Ok(Audience::TokenEndpoint(TokenUrl::parse(alloc, url)?))
+}
+
 /// A source of this client at this nanosecond since 1970, for this audience.
 pub(crate) fn source(
     alloc: Global,
     client_id: &str,
     secret: &str,
-    audience: &str,
+    audience: Audience,
     nanosecond: i128,
 ) -> Result<ClientSecretJwt<Ticking, Counting>, Fail> {
     Ok(ClientSecretJwt::new(
         ClientId::new(text(alloc, client_id)?),
         ClientSecret::new(text(alloc, secret)?),
-        text(alloc, audience)?,
+        audience,
         Ticking(Some(nanosecond)),
         Counting(Some(0)),
     )?)

@@ -1,12 +1,13 @@
 //! Whole tokens. Each expected text was made by Python's `hmac`, `hashlib`, `base64` and `json`.
 
-use crate::parts::{Counting, SECRET, Ticking, source};
+use crate::parts::{Counting, SECRET, Ticking, issuer, source, token_endpoint};
 use http::request::Parts;
 use http::{Method, Request};
 use http_header::{CONTENT_TYPE, HeaderValue};
-use oauth2_client_assertions::{AssertingClient, AssertionSource};
+use http_uri::Uri;
+use oauth2_client_assertions::{AssertingClient, AssertionSource, ServerEndpoints};
 use oauth2_client_secret_jwt::ClientSecretJwt;
-use oauth2_tests_support::{OneReply, check, check_text};
+use oauth2_tests_support::{OneReply, check, check_text, url};
 use oauth2_wire::SyncHttpClient;
 use std::alloc::Global;
 use std::test::Fail;
@@ -31,19 +32,19 @@ const ESCAPED: &str =
 LmNvbSIsImV4cCI6MCwiaWF0IjowLCJpc3MiOiJhXCJiXFxjXG7DqSIsImp0aSI6IkFBRUNBd1FGQmdjSUNRb0xEQTBPRHci\
 LCJzdWIiOiJhXCJiXFxjXG7DqSJ9.cxHDRWyKGoKDcv8k_2GTjWosk_LiEDPqnk-I_YhBnxM";
 
-// {"aud":"a","exp":257697174495,"iat":253402207200,"iss":"s6BhdRkqt3",
+// {"aud":"https://a","exp":257697174495,"iat":253402207200,"iss":"s6BhdRkqt3",
 // "jti":"AAECAwQFBgcICQoLDA0ODw","sub":"s6BhdRkqt3"}
 const LAST: &str =
-    "eyJhbGciOiJIUzI1NiIsInR5cCI6IkpXVCJ9.eyJhdWQiOiJhIiwiZXhwIjoyNTc2OTcxNzQ0OTUsImlh\
-dCI6MjUzNDAyMjA3MjAwLCJpc3MiOiJzNkJoZFJrcXQzIiwianRpIjoiQUFFQ0F3UUZCZ2NJQ1FvTERBME9EdyIsInN1YiI6\
-InM2QmhkUmtxdDMifQ.55JN5SwRSvvlL6dBRDUY-nNfipMfa5QIH9iqll0AiXU";
+    "eyJhbGciOiJIUzI1NiIsInR5cCI6IkpXVCJ9.eyJhdWQiOiJodHRwczovL2EiLCJleHAiOjI1NzY5NzE3NDQ5NSw\
+iaWF0IjoyNTM0MDIyMDcyMDAsImlzcyI6InM2QmhkUmtxdDMiLCJqdGkiOiJBQUVDQXdRRkJnY0lDUW9MREEwT0R\
+3Iiwic3ViIjoiczZCaGRSa3F0MyJ9.ap0YRZB17ER6sGHrLTmVCJdYyNAVaQvKy_lrzeI7zQ8";
 
 fn of_the_example(alloc: Global) -> Result<ClientSecretJwt<Ticking, Counting>, Fail> {
     source(
         alloc,
         "s6BhdRkqt3",
         SECRET,
-        "https://server.example.com/token",
+        token_endpoint(alloc, "https://server.example.com/token")?,
         1_300_819_320_999_999_999,
     )
 }
@@ -70,7 +71,7 @@ fn an_identifier_with_escapes(rt: HostRuntime) -> Result<(), Fail> {
         alloc,
         "a\"b\\c\n\u{e9}",
         "kkkkkkkkkkkkkkkkkkkkkkkkkkkkkkkkkkkkkkkkkkkkkkkkkkkkkkkkkkkkkkkkk",
-        "https://server.example.com",
+        issuer(alloc, "https://server.example.com")?,
         0,
     )?
     .set_lifetime(0);
@@ -88,7 +89,7 @@ fn the_last_second(rt: HostRuntime) -> Result<(), Fail> {
         alloc,
         "s6BhdRkqt3",
         SECRET,
-        "a",
+        issuer(alloc, "https://a")?,
         253_402_207_200_999_999_999,
     )?
     .set_lifetime(u32::MAX);
@@ -104,11 +105,14 @@ fn a_request(rt: HostRuntime) -> Result<(), Fail> {
     let alloc = rt.alloc();
     let mut head = Parts::new(alloc);
     head.method = Method::POST;
+    head.uri = Uri::from_str(alloc, "https://server.example.com/token")?;
     let form = HeaderValue::from_static("application/x-www-form-urlencoded");
     let _ = head.headers.insert(CONTENT_TYPE, form)?;
     let request = Request::from_parts(head, b"grant_type=client_credentials".to_vec(alloc)?);
     let reply = OneReply::with_body(alloc, 200, "{}")?;
-    let mut client = AssertingClient::new(alloc, reply, of_the_example(alloc)?);
+    let endpoint = url(alloc, "https://server.example.com/token")?;
+    let endpoints = ServerEndpoints::new(alloc, &endpoint)?;
+    let mut client = AssertingClient::new(alloc, reply, of_the_example(alloc)?, endpoints);
     check(client.call(request).is_ok(), "the call")?;
     let (sender, _) = client.into_parts();
     let body = format!(in alloc;

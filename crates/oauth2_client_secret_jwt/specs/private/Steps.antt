@@ -17,10 +17,10 @@ ReadsSecond reads before (Err (error.Generator fault)) after = ⊥
 ReadsSecond reads before (Err error.Memory) after = ⊥
 
 -- the generator was called once; the 16 bytes that it drew, or its error
-abbrev pub Draws : {R KE RE : Type 0} → (R → List ℕ → R → Type 0) → R
+abbrev pub Draws : {R KE RE : Type 0} → (R → Result (List ℕ) RE → R → Type 0) → R
     → Result (List ℕ) (ClientSecretJwtError KE RE) → R → Type 0
-Draws fills before (Ok drawn) after = fills before drawn after × (length drawn ≡ 16)
-Draws fills before (Err (error.Generator fault)) after = Unit {0}
-Draws fills before (Err (error.Clock fault)) after = ⊥
-Draws fills before (Err error.Before1970) after = ⊥
-Draws fills before (Err error.Memory) after = ⊥
+Draws draws before (Ok drawn) after = draws before (Ok drawn) after × (length drawn ≡ 16)
+Draws draws before (Err (error.Generator fault)) after = draws before (Err fault) after
+Draws draws before (Err (error.Clock fault)) after = ⊥
+Draws draws before (Err error.Before1970) after = ⊥
+Draws draws before (Err error.Memory) after = ⊥
