@@ -62,6 +62,9 @@ def objects(script, known, commands):
         yield '"client"', script['client'], known['client']
     if script.get('command') in [*commands]:
         yield '"params" of "%s"' % script['command'], script.get('params', {}), commands[script['command']]
+        params = script.get('params')
+        if script['command'] == 'redirect' and isinstance(params, dict) and 'login' in params:
+            yield '"login"', params['login'], known['login']
     replies = script.get('replies')
     for number, reply in enumerate(replies if isinstance(replies, list) else [], 1):
         names, given = known['replies'], reply if isinstance(reply, dict) else {}

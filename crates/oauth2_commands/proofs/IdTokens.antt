@@ -29,6 +29,7 @@ added old new s o is printed = (o, is, printed.0, printed.1)
 pub read_error_shown : (error : IdTokenReadError) (old new : List Event) (s : RunStatus) → (error ≡ errors.Memory → ⊥)
     → AddsOutput old new s (failure_output BadToken (id_token_read_error_text error))
     → IsSomeAnd (token_fault_in error) (λ fault. AddsOutput old new s (failure_output BadToken (token_fault_text fault)))
+read_error_shown errors.TooLong old new s other printed = printed
 read_error_shown errors.NotThreeParts old new s other printed = printed
 read_error_shown (errors.NotBase64 part) old new s other printed = printed
 read_error_shown (errors.Fault part fault) old new s other printed = printed
@@ -38,6 +39,7 @@ read_error_shown errors.Memory old new s other printed = absurd (other refl)
 pub unread_shown : {T : Type 0} (IsShown : T → Output → Type 0) (error : IdTokenReadError) (read : TokenReading T) (old new : List Event) (s : RunStatus)
     → TokenErrsAs error read → IsSomeAnd (token_fault_in error) (λ fault. AddsOutput old new s (failure_output BadToken (token_fault_text fault)))
     → Adds old new s (IsReadOutput IsShown read)
+unread_shown IsShown errors.TooLong read old new s tells printed = rw tells (added _ _ s _ refl printed)
 unread_shown IsShown errors.NotThreeParts read old new s tells printed = rw tells (added _ _ s _ refl printed)
 unread_shown IsShown (errors.NotBase64 part) read old new s tells printed = rw tells (added _ _ s _ refl printed)
 unread_shown IsShown (errors.Fault part fault) read old new s tells printed = rw tells (added _ _ s _ refl printed)

@@ -119,14 +119,10 @@ module _ (before mid : ScriptedClient) (fed : mid.is_starved ≡ false) where
           seen_map (AsksSo url (Ok reply)) (CallsSo result)
           (λ last so. (accepted given, (stale, is, (reply, told, (url, there, so))), stays))
           (asked url (Ok reply) asks)
-      keeper_called result (failed, (stale, (error, is, inl (url, there, asks))), stays) =
+      keeper_called result (failed, (stale, (error, is, (url, there, asks))), stays) =
           seen_map (AsksSo url (Err error)) (CallsSo result)
-          (λ last so. (failed, (stale, (error, is, inl (url, there, so))), stays))
+          (λ last so. (failed, (stale, (error, is, (url, there, so))), stays))
           (asked url (Err error) asks)
-      keeper_called r (failed, (stale, (e, is, inr (lost, (reply, (url, there, asks))))), stays) =
-          seen_map (AsksSo url (Ok reply)) (CallsSo r)
-          (λ last so. (failed, (stale, (e, is, inr (lost, (reply, (url, there, so))))), stays))
-          (asked url (Ok reply) asks)
 
   module _ (keeper kept : Patient) (now : ℤ) where
     abbrev PatientlyCalls : Result Unit KeeperFault → Type 0

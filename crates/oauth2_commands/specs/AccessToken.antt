@@ -10,6 +10,7 @@ use Rattle.oauth2_jwt_access_tokens.specs.AccessToken.{AccessToken, access_token
 use Rattle.oauth2_jwt_access_tokens.specs.ErrorTexts.{access_token_fault_text}
 use Rattle.oauth2_jwt_access_tokens.specs.Introspection.{introspection_of}
 use Rattle.oauth2_jwt_access_tokens.specs.Rules.{Expectation, AccessTokenHolds, IsFirstFault}
+use Rattle.oauth2_jwt_access_tokens.specs.declared.expected.SenderConstraint.TheVariants.{NoKeyProven}
 use Rattle.oauth2_jwt_access_tokens.specs.declared.fault.AccessTokenFault.{AccessTokenFault}
 use Rattle.oauth2_world.specs.Clock.{Clock, reading_of}
 use Rattle.oauth2_world.specs.declared.event.FaultKind.TheVariants.{BadAccessToken, BadKeys}
@@ -21,7 +22,13 @@ use Rattle.oauth2_commands.specs.IdToken.{signature_algorithm, IsReadOutput, unc
 -- what a resource server expects of the token of a script, signed with this algorithm
 abbrev pub access_token_expectation : AccessTokenParams → SignatureAlgorithm → Expectation
 access_token_expectation p algorithm =
-    record { issuer = p.issuer; audience = p.audience; algorithm = algorithm; leeway = p.leeway }
+    record {
+      issuer = p.issuer;
+      audience = p.audience;
+      algorithm = algorithm;
+      constraint = NoKeyProven;
+      leeway = p.leeway;
+    }
 
 -- the output of a token at the moment `now`: if all rules hold, what an introspection tells of such
 -- a token (RFC 7662, 2.2); else the first rule that does not hold (RFC 9068, 4)

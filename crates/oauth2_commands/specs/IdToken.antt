@@ -19,7 +19,7 @@ use Rattle.oauth2_openid.specs.Claims.{Claims, Expectation, NamedIssuers}
 use Rattle.oauth2_openid.specs.Claims as named
 use Rattle.oauth2_openid.specs.ErrorTexts.{claims_error_text, part_text}
 use Rattle.oauth2_openid.specs.Reading.{compact_token_reading, id_token_rows}
-use Rattle.oauth2_openid.specs.Token.{DecodedToken, TokenFault, TokenReading, not_three_parts, not_base64, at_fault}
+use Rattle.oauth2_openid.specs.Token.{DecodedToken, TokenFault, TokenReading, too_long, not_three_parts, not_base64, at_fault}
 use Rattle.oauth2_openid.specs.TokenRules.{token_checked}
 use Rattle.oauth2_openid.specs.declared.access_token_hash.AccessTokenHash.{AccessTokenHash}
 use Rattle.oauth2_openid.specs.declared.access_token_hash.AccessTokenHash.TheVariants.{Absent, Matches, NotChecked}
@@ -75,6 +75,7 @@ checked_json hash c = compact_text (checked_data hash c)
 
 -- why a text is not a token (RFC 7515, 7.1; OpenID Connect Core 1.0, 2)
 abbrev pub token_fault_text : TokenFault → List ℕ
+token_fault_text too_long = codes "too long"
 token_fault_text not_three_parts = codes "not three parts"
 token_fault_text (not_base64 part) = part_text part ++ codes ": not base64url"
 token_fault_text (at_fault part fault) = part_text part ++ codes ": " ++ parse_fault_text fault

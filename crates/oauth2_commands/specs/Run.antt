@@ -51,7 +51,7 @@ IsCommandOutput client clock replies (metadata p) o = IsMetadataOutput client p 
 IsCommandOutput client clock replies (id_token p) o = IsIdTokenOutput client p clock o
 IsCommandOutput client clock replies (access_token p) o = IsAccessTokenOutput p clock o
 IsCommandOutput client clock replies (authorize p) o = IsAuthorizeOutput client p o
-IsCommandOutput client clock replies (redirect p) o = IsRedirectOutput p o
+IsCommandOutput client clock replies (redirect p) o = IsRedirectOutput client p o
 
 -- the output of the command of a script, of either kind
 abbrev pub IsRunOutput : Client → Clock → List Reply → ScriptCommand → Output → Type 0

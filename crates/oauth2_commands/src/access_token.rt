@@ -15,7 +15,9 @@ use crate::id_token::{show_keys_error, show_read_error, show_unchecked, signatur
 use jiff::Timestamp;
 use oauth2::basic::BasicTokenIntrospectionResponse;
 use oauth2::{EmptyExtraTokenFields, FromJson};
-use oauth2_jwt_access_tokens::{ExpectedAccessToken, JwtAccessToken, VerifiedAccessToken};
+use oauth2_jwt_access_tokens::{
+    ExpectedAccessToken, JwtAccessToken, SenderConstraint, VerifiedAccessToken,
+};
 use oauth2_keys::{JsonWebKeySet, SignatureAlgorithm};
 use oauth2_request_commands::{RunStatus, show_answer, show_error_text};
 use oauth2_script::AccessTokenParams;
@@ -75,6 +77,7 @@ fn show_by_algorithm(
         issuer: params.issuer,
         audience: params.audience,
         algorithm,
+        constraint: SenderConstraint::NoKeyProven,
         leeway: params.leeway,
     };
     match JsonWebKeySet::from_json(alloc, params.keys) {

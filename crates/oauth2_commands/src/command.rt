@@ -77,6 +77,6 @@ pub fn run_command(
             &mut http_client.events,
         ),
         Command::Authorize(params) => run_authorize(alloc, client, params, &mut http_client.events),
-        Command::Redirect(params) => run_redirect(alloc, params, &mut http_client.events),
+        Command::Redirect(params) => run_redirect(alloc, client, params, &mut http_client.events),
     }
 }

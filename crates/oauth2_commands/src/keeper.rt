@@ -13,7 +13,7 @@ use crate::script_keeper::{PlainKeeper, ScriptKeeper, show_call, waiting_keeper}
 use jiff::Timestamp;
 use oauth2::basic::BasicClient;
 use oauth2::{EndpointMaybeSet, EndpointSet, ParamText, TokenUrl, TryClone};
-use oauth2_keeper::{RenewalTimes, TokenKeeper};
+use oauth2_keeper::TokenKeeper;
 use oauth2_request_commands::{RunStatus, ScriptClient, show_missing};
 use oauth2_script::KeeperParams;
 use oauth2_world::ScriptedClient;
@@ -101,11 +101,7 @@ fn show_new_keeper(
         extra_params,
         retry_after,
     } = params;
-    let times = RenewalTimes {
-        margin,
-        default_lifetime: life,
-    };
-    let mut keeper = TokenKeeper::new(client, refresh, times);
+    let mut keeper = TokenKeeper::new(client, refresh, margin, life);
     keeper.add_scopes(alloc, scopes)?;
     add_extra(alloc, &mut keeper, extra_params.as_slice())?;
     let mut keeper = waiting_keeper(keeper, retry_after);

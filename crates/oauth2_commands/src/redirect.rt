@@ -1,4 +1,5 @@
-//! The command `redirect`: reads the code from the URL that the user was sent back to.
+//! The command `redirect`: reads the code from the URL that the user was sent back to, if that and
+//! the client are the login's.
 
 ghost use Rattle.std.specs.Prelude.{◌≡◌, ℕ, List, Result, IfOk};
 ghost use Rattle.oauth2_request_commands.specs.Out.{success_output, Adds, AddsOutput};
@@ -15,8 +16,10 @@ ghost use Rattle.oauth2_world.specs.Events.{details_of};
 ghost use Rattle.oauth2_world.specs.Quotation.{quotation};
 
 use oauth2::AuthorizationCode;
-use oauth2_redirect::{ExpectedIssuer, RedirectError, read_redirect};
-use oauth2_request_commands::{RunStatus, ShownError, add_answer, add_fault};
+use oauth2_redirect::{ExpectedIssuer, LoginBinding, LoginMismatch, RedirectError, read_redirect};
+use oauth2_request_commands::{
+    RunStatus, ScriptClient, ShownError, add_answer, add_fault, show_error_text,
+};
 use oauth2_script::{ExpectedIssuerParam, RedirectParams};
 use oauth2_world::{Events, Fault, FaultDetails, FaultKind, quoted};
 use std::alloc::{AllocError, Global};
@@ -88,15 +91,56 @@ fn show_refusal(
     Ok(status)
 }
 
-/// Shows the code of a redirect, or why it has none (RFC 6749, section 4.1.2).
+// What of the client and of the called URL is not that of the login that was kept.
+fn mismatch(client: &ScriptClient, params: &RedirectParams) -> Option<LoginMismatch>
+    ensures { let p = redirect_view params.now in
+        result ≡ spec.kept_mismatch client.now p.login p.redirect.url }
+{
+    let login = params.login.as_ref()?;
+    let binding = LoginBinding {
+        client_id: &login.client_id,
+        token_url: login.token_url.url().as_str(),
+        redirect_uri: login.redirect_uri.url(),
+    };
+    binding.mismatch(
+        client.client_id(),
+        client.token_uri(),
+        params.redirect.url(),
+    )
+}
+
+// Adds the event that the login is of another client, server or place.
+fn show_mismatch(
+    alloc: Global,
+    events: &mut Events,
+    error: LoginMismatch,
+) -> Result<RunStatus, AllocError>
+    ensures { IfOk result (λ status. AddsOutput events.old events.new status
+        (spec.mismatch_output error)) }
+{
+    let kind = match error {
+        LoginMismatch::OtherClient => FaultKind::OtherClient,
+        LoginMismatch::OtherTokenEndpoint => FaultKind::OtherTokenEndpoint,
+        LoginMismatch::OtherRedirectUri => FaultKind::OtherRedirectUri,
+    };
+    let status = show_error_text(alloc, events, kind, &error)?;
+    Ok(status)
+}
+
+/// Shows the code of a redirect, or why it has none (RFC 6749, section 4.1.2), or what is not that
+/// of the login that was kept (RFC 9700, sections 2.1 and 4.4.2).
 pub fn run_redirect(
     alloc: Global,
+    client: &ScriptClient,
     params: RedirectParams,
     events: &mut Events,
 ) -> Result<RunStatus, AllocError>
     ensures { IfOk result (λ status. Adds events.old events.new status
-        (spec.IsRedirectOutput (redirect_view params))) }
+        (spec.IsRedirectOutput client.now (redirect_view params))) }
 {
+    if let Some(error) = mismatch(client, &params) {
+        return show_mismatch(alloc, events, error);
+    }
     match read(alloc, &params) {
         Ok(code) => show_code(alloc, events, &code),
         Err(error) => show_refusal(alloc, events, &error),

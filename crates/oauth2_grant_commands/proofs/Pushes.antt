@@ -62,7 +62,7 @@ made_of made client pairs whose found = let same : made.pairs ≡ pairs = cc in 
 -- these parameters were pushed
 pub sent_told : (client : PushingClientView) (url : Addressed) (pairs : List Pair) (made : PushedRequest) (old new : ScriptedClient) (events : List Event) (s : RunStatus)
     (result : Result PushedAuthorization ShownFault)
-    → made ≡ record { client = client; pairs = pairs } → push_fault client.client_id (Some pairs) ≡ None
+    → made ≡ record { client = client; pairs = pairs } → push_fault client.client_id client.endpoint url.url (Some pairs) ≡ None
     → AsksOnce (λ a. a) (parts_of error_code) ReplaysOrStarves (pushed_answer made.client.reply_rule) (IsRequestOf (pushed_configuration made)) (serialize made.client.endpoint) old result new
     → new.is_starved ≡ false
     → AddsOutput new.events events s (end_output error_seen (pushed_output client.client_id url) result)
@@ -78,7 +78,7 @@ sent_told client url pairs made old new events s result is free once fed printed
 module _ (client : PushingClientView) (url : Addressed) (pairs : List Pair) (replies : List Reply)
     (old new : List Event) (s : RunStatus) where
   -- these parameters cannot be pushed
-  pub refused_told : (e : PushFault) → (e ≡ Memory) ⊎ (push_fault client.client_id (Some pairs) ≡ Some e) → e ≢ Memory
+  pub refused_told : (e : PushFault) → (e ≡ Memory) ⊎ (push_fault client.client_id client.endpoint url.url (Some pairs) ≡ Some e) → e ≢ Memory
       → AddsOutput old new s (failure_output BadPush (push_fault_text e)) → Adds old new s (IsPushedOrRefused client url pairs replies)
   refused_told e (inl memory) other told = absurd (other memory)
   refused_told e (inr is) other told = (failure_output BadPush (push_fault_text e), rw is refl, told.0, told.1)

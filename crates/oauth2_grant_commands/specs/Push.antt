@@ -69,7 +69,7 @@ IsPushShown url r =
 abbrev pub IsPushedOrRefused : PushingClientView → Addressed → List Pair → List Reply → Output
     → Type 0
 IsPushedOrRefused client url pairs replies o =
-    MatchOption (push_fault client.client_id (Some pairs)) (IsPushShown url (record { client = client; pairs = pairs }) replies o)
+    MatchOption (push_fault client.client_id client.endpoint url.url (Some pairs)) (IsPushShown url (record { client = client; pairs = pairs }) replies o)
     (λ fault. o ≡ failure_output BadPush (push_fault_text fault))
 
 -- the output of a push of the parameters for this authorization endpoint, or that the other endpoint

@@ -16,6 +16,9 @@ kind_word kind.UnreadReply = codes "unread_reply"
 kind_word kind.OtherError = codes "other_error"
 kind_word kind.OutOfMemory = codes "out_of_memory"
 kind_word kind.RefusedRedirect = codes "refused_redirect"
+kind_word kind.OtherClient = codes "other_client"
+kind_word kind.OtherTokenEndpoint = codes "other_token_endpoint"
+kind_word kind.OtherRedirectUri = codes "other_redirect_uri"
 kind_word kind.OtherStatus = codes "other_status"
 kind_word kind.BadMetadata = codes "bad_metadata"
 kind_word kind.OtherIssuer = codes "other_issuer"
@@ -40,6 +43,9 @@ kinds =
     kind.OtherError
     ∷ kind.OutOfMemory
     ∷ kind.RefusedRedirect
+    ∷ kind.OtherClient
+    ∷ kind.OtherTokenEndpoint ∷
+    kind.OtherRedirectUri
     ∷ kind.OtherStatus
     ∷ kind.BadMetadata ∷
     kind.OtherIssuer ∷ kind.BadIssuer ∷ kind.BadToken ∷ kind.BadClaims ∷ kind.BadSignature ∷

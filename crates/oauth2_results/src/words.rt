@@ -21,6 +21,9 @@ pub fn kind_word(kind: FaultKind) -> &'static str
         FaultKind::OtherError => "other_error",
         FaultKind::OutOfMemory => "out_of_memory",
         FaultKind::RefusedRedirect => "refused_redirect",
+        FaultKind::OtherClient => "other_client",
+        FaultKind::OtherTokenEndpoint => "other_token_endpoint",
+        FaultKind::OtherRedirectUri => "other_redirect_uri",
         FaultKind::OtherStatus => "other_status",
         FaultKind::BadMetadata => "bad_metadata",
         FaultKind::OtherIssuer => "other_issuer",
@@ -49,6 +52,9 @@ pub fn kinds_text() -> &'static str
      other_error\n\
      out_of_memory\n\
      refused_redirect\n\
+     other_client\n\
+     other_token_endpoint\n\
+     other_redirect_uri\n\
      other_status\n\
      bad_metadata\n\
      other_issuer\n\

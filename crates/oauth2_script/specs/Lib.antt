@@ -17,6 +17,7 @@ pub mod ExchangeTokenParams
 pub mod ExtensionParams
 pub mod IdTokenParams
 pub mod IntrospectParams
+pub mod KeptLogin
 pub mod KeeperParams
 pub mod MetadataParams
 pub mod PasswordParams

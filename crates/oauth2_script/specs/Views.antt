@@ -21,6 +21,7 @@ use Rattle.oauth2_script.specs.DevicePollParams as device_poll_spec
 use Rattle.oauth2_script.specs.IntrospectParams as introspect_spec
 use Rattle.oauth2_script.specs.RevokeParams as revoke_spec
 use Rattle.oauth2_script.specs.AuthorizeParams as authorize_spec
+use Rattle.oauth2_script.specs.KeptLogin as kept_login_spec
 use Rattle.oauth2_script.specs.RedirectParams as redirect_spec
 use Rattle.oauth2_script.specs.KeeperParams as keeper_spec
 use Rattle.oauth2_script.specs.SharedKeeperParams as shared_keeper_spec
@@ -42,6 +43,7 @@ use Rattle.oauth2_script.specs.declared.revoke_params.RevokeParams.{RevokeParams
 use Rattle.oauth2_script.specs.declared.authorize_params.AuthorizeParams.{AuthorizeParams}
 use Rattle.oauth2_script.specs.declared.redirect_params.ExpectedIssuerParam.{ExpectedIssuerParam}
 use Rattle.oauth2_script.specs.declared.redirect_params.ExpectedIssuerParam.TheVariants as issuer_param
+use Rattle.oauth2_script.specs.declared.kept_login.KeptLogin.{KeptLogin}
 use Rattle.oauth2_script.specs.declared.redirect_params.RedirectParams.{RedirectParams}
 use Rattle.oauth2_script.specs.declared.keeper_params.KeeperParams.{KeeperParams}
 use Rattle.oauth2_script.specs.declared.shared_keeper_params.SharedKeeperParams.{SharedKeeperParams}
@@ -155,11 +157,20 @@ expected_issuer_view (issuer_param.Required text) = redirect_spec.required (stri
 expected_issuer_view (issuer_param.Compared text) = redirect_spec.compared (string_bytes text)
 expected_issuer_view issuer_param.Unknown = redirect_spec.unknown
 
+-- what was kept of a login as contracts see it
+abbrev pub kept_login_view : KeptLogin → kept_login_spec.KeptLogin
+kept_login_view l = record {
+  client_id = l.client_id;
+  token_url = l.token_url;
+  redirect_uri = l.redirect_uri;
+}
+
 -- the parameters of the command `redirect` as contracts see them
 abbrev pub redirect_view : RedirectParams → redirect_spec.RedirectParams
 redirect_view p = record {
   state = p.state;
   redirect = p.redirect;
+  login = option_map kept_login_view p.login;
   issuer = expected_issuer_view p.issuer;
 }
 

@@ -5,6 +5,7 @@ ghost use Rattle.oauth2_script_values.specs.Gives.{Gives};
 ghost use Rattle.oauth2_script.specs.RedirectParams as spec;
 ghost use Rattle.oauth2_script.specs.Views.{expected_issuer_view};
 
+use crate::kept_login::KeptLogin;
 use oauth2_script_values::{Part, PartError, ScriptCause, bad_member, needed, optional};
 use oauth2_types::CsrfToken;
 use oauth2_urls::RedirectUrl;
@@ -28,6 +29,8 @@ pub struct RedirectParams {
     pub state: CsrfToken,
     /// The URL that the user was sent back to.
     pub redirect: RedirectUrl,
+    /// What was kept of the login, if it is to be compared.
+    pub login: Option<KeptLogin>,
     pub issuer: ExpectedIssuerParam,
 }
 
@@ -44,11 +47,13 @@ impl Part for RedirectParams {
     fn from_value(alloc: Global, value: &Value) -> Result<RedirectParams, PartError> {
         let state = needed(alloc, value, "state")?;
         let redirect = needed(alloc, value, "redirect")?;
+        let login = optional(alloc, value, "login")?;
         let issuer = optional(alloc, value, "issuer")?;
         let issuer_compared = optional(alloc, value, "issuer_compared")?;
         Ok(RedirectParams {
             state,
             redirect,
+            login,
             issuer: issuer_of(issuer, issuer_compared)?,
         })
     }

@@ -1,10 +1,10 @@
 -- How parts of a script are read from a JSON value.
-use Rattle.std.specs.Prelude.{ℕ, zero, suc, ◌*◌, List, [], ◌∷◌, ℤ, pos, negsuc, ◌*ℤ◌, ◌&&◌, Option, Some, None, option_and_then, Ok, Err, length, nat_le, if◌then◌else◌, codes}
+use Rattle.std.specs.Prelude.{ℕ, zero, suc, ◌*◌, List, [], ◌∷◌, ℤ, pos, negsuc, ◌*ℤ◌, ◌&&◌, Option, Some, None, Ok, Err, length, nat_le, if◌then◌else◌, codes}
 use Rattle.std.specs.Int.Signed.{le_z}
 use Rattle.std.specs.List.{list_all}
 use Rattle.http_header.specs.Token.{is_value_byte}
-use Rattle.serde_json.specs.Data.{Data, Items, no_items, item}
-use Rattle.serde_json.specs.Find.{get, as_str, as_array, as_number, as_object, as_u64, as_i64}
+use Rattle.serde_json.specs.Data.{Num, unsigned, negative, float, Data, Items, no_items, item}
+use Rattle.serde_json.specs.Find.{get, as_str, as_array, as_number, as_object}
 use Rattle.oauth2_types.specs.Pkce.{Challenge, sha256_challenge}
 use Rattle.oauth2_urls.specs.Addressed.{Addressed}
 use Rattle.url.specs.Parts.{Parts}
@@ -66,9 +66,23 @@ text d = or_bad WrongType (as_str d)
 abbrev pub word : {A : Type 0} → (List ℕ → Option A) → Data → Reading A
 word known d = text d >>= λ t. or_bad UnknownWord (known t)
 
+-- a number that is whole and not negative; one that is written as a float is of another type:
+-- `serde_json` holds as floats numbers with a fraction or an exponent, -0, and whole numbers outside
+-- its integer types
+abbrev pub natural : Num → Reading ℕ
+natural (unsigned n) = Ok n
+natural (negative z) = bad OutOfRange
+natural (float x) = bad WrongType
+
 -- a whole number, 0 to 2^64 - 1
 abbrev pub whole_number : Data → Reading ℕ
-whole_number d = or_bad WrongType (option_and_then as_u64 (as_number d))
+whole_number d = or_bad WrongType (as_number d) >>= natural
+
+-- a number that is whole, which may be negative; one that is written as a float is of another type
+abbrev pub integer : Num → Reading ℤ
+integer (unsigned n) = Ok (pos n)
+integer (negative z) = Ok z
+integer (float x) = bad WrongType
 
 -- a name and a value, the two items of a list
 abbrev pub pair_from : Data → Data → Reading (List ℕ × List ℕ)
@@ -141,13 +155,13 @@ abbrev pub second_in_range : ℤ → Reading ℤ
 second_in_range z =
     if le_z (negsuc 377705023200) z && le_z z (pos 253402207200) then Ok z else bad OutOfRange
 
--- a number of whole seconds since 1970, in the range of a reading
-abbrev pub second : Data → Reading ℤ
-second d = or_bad WrongType (option_and_then as_i64 (as_number d)) >>= second_in_range
+-- the moment of a number of whole seconds since 1970, in the range of a reading; in nanoseconds
+abbrev pub moment_of : Num → Reading ℤ
+moment_of n = map_read (λ z. z *ℤ pos 1_000_000_000) (integer n >>= second_in_range)
 
 -- a number of whole seconds since 1970, as nanoseconds since 1970
 abbrev pub moment : Data → Reading ℤ
-moment d = map_read (λ z. z *ℤ pos 1_000_000_000) (second d)
+moment d = or_bad WrongType (as_number d) >>= moment_of
 
 -- a number of whole seconds, 0 to 2^64 - 1, as nanoseconds
 abbrev pub duration : Data → Reading ℕ

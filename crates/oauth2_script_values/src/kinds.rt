@@ -4,7 +4,7 @@ ghost use Rattle.std.specs.Prelude.{◌≡◌, ℕ, ℤ, pos, ◌*ℤ◌, List, 
 ghost use Rattle.std.specs.Prelude.{IfErr, false};
 ghost use Rattle.std.specs.Duration.{as_nanos};
 ghost use Rattle.std.specs.Int.NonZero.{non_zero_u64_get};
-ghost use Rattle.serde_json.specs.View.{view, items_view};
+ghost use Rattle.serde_json.specs.View.{view, items_view, number_view};
 ghost use Rattle.oauth2_types.specs.Pkce.{Challenge};
 ghost use Rattle.oauth2_script_values.specs.Part as spec;
 ghost use Rattle.oauth2_script_values.specs.Gives.{Gives, IsBad};
@@ -18,7 +18,7 @@ use http::StatusCode;
 use http_header::HeaderValue;
 use jiff_core::Timestamp;
 use oauth2_types::{PkceCodeChallenge, PkceCodeVerifier};
-use serde_json::Value;
+use serde_json::{Number, Value};
 use std::alloc::Global;
 use std::num::NonZeroU64;
 use std::time::Duration;
@@ -119,6 +119,26 @@ impl Part for Value {
     }
 }
 
+// A whole number that is not negative.
+fn natural(number: &Number) -> Result<u64, PartError>
+    ensures read { Gives (λ n. n) result (spec.natural (number_view number.now)) }
+    ensures fed { IfErr result IsBad }
+{
+    if number.is_f64() {
+        return Err(bad(ScriptCause::WrongType));
+    }
+    number.as_u64().ok_or(bad(ScriptCause::OutOfRange))
+}
+
+// A value that is a whole number and not negative.
+fn whole_number(value: &Value) -> Result<u64, PartError>
+    ensures read { Gives (λ n. n) result (spec.whole_number (view value.now)) }
+    ensures fed { IfErr result IsBad }
+{
+    let number = value.as_number().ok_or(bad(ScriptCause::WrongType))?;
+    natural(number)
+}
+
 /// A status code of HTTP, 100 to 999.
 impl Part for StatusCode {
     ghost Meaning = { ℕ };
@@ -130,7 +150,7 @@ impl Part for StatusCode {
     ghost allocates = { false };
 
     fn from_value(_alloc: Global, value: &Value) -> Result<StatusCode, PartError> {
-        let code = value.as_u64().ok_or(bad(ScriptCause::WrongType))?;
+        let code = whole_number(value)?;
         if code < 100 || 999 < code {
             return Err(bad(ScriptCause::OutOfRange));
         }
@@ -152,6 +172,19 @@ fn moment_at(second: i64) -> Result<Timestamp, PartError>
     }
 }
 
+// The moment of a whole number of seconds. A number past 2^63 - 1 is past the range too.
+fn moment_of(number: &Number) -> Result<Timestamp, PartError>
+    ensures read { Gives (λ t. t.nanosecond) result
+        (spec.moment_of (number_view number.now)) }
+    ensures fed { IfErr result IsBad }
+{
+    match number.as_i64() {
+        Some(second) => moment_at(second),
+        None if number.is_f64() => Err(bad(ScriptCause::WrongType)),
+        None => Err(bad(ScriptCause::OutOfRange)),
+    }
+}
+
 /// A moment from whole seconds since 1970, inside the range of a `jiff` timestamp.
 impl Part for Timestamp {
     ghost Meaning = { ℤ };
@@ -163,8 +196,8 @@ impl Part for Timestamp {
     ghost allocates = { false };
 
     fn from_value(_alloc: Global, value: &Value) -> Result<Timestamp, PartError> {
-        let second = value.as_i64().ok_or(bad(ScriptCause::WrongType))?;
-        moment_at(second)
+        let second = value.as_number().ok_or(bad(ScriptCause::WrongType))?;
+        moment_of(second)
     }
 }
 
@@ -179,7 +212,7 @@ impl Part for Duration {
     ghost allocates = { false };
 
     fn from_value(_alloc: Global, value: &Value) -> Result<Duration, PartError> {
-        let seconds = value.as_u64().ok_or(bad(ScriptCause::WrongType))?;
+        let seconds = whole_number(value)?;
         Ok(Duration::from_secs(seconds))
     }
 }
@@ -195,7 +228,7 @@ impl Part for u8 {
     ghost allocates = { false };
 
     fn from_value(_alloc: Global, value: &Value) -> Result<u8, PartError> {
-        let number = value.as_u64().ok_or(bad(ScriptCause::WrongType))?;
+        let number = whole_number(value)?;
         if number > 255 {
             return Err(bad(ScriptCause::OutOfRange));
         }
@@ -214,7 +247,7 @@ impl Part for NonZeroU64 {
     ghost allocates = { false };
 
     fn from_value(_alloc: Global, value: &Value) -> Result<NonZeroU64, PartError> {
-        let number = value.as_u64().ok_or(bad(ScriptCause::WrongType))?;
+        let number = whole_number(value)?;
         NonZeroU64::new(number).ok_or(bad(ScriptCause::OutOfRange))
     }
 }

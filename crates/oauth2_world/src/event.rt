@@ -29,6 +29,12 @@ pub enum FaultKind {
     OutOfMemory,
     /// The redirect has no code for this login (RFC 6749, section 4.1.2).
     RefusedRedirect,
+    /// The login began with another client identifier than the client's.
+    OtherClient,
+    /// The login began at another token endpoint than the client's (RFC 9700, section 4.4).
+    OtherTokenEndpoint,
+    /// The redirect came to another URL than the login's redirect URI (RFC 9700, section 2.1).
+    OtherRedirectUri,
     /// The reply to a request for metadata has another status than 200.
     OtherStatus,
     /// The metadata has an endpoint that a client must not call.

@@ -20,7 +20,7 @@ returns-in-Ok c =
     let found : Some made.pairs ≡ Some pairs = sym c.in-Ok.ensures.pairs ∙ all in
     let asking : c.new-pushing.result ≡ client = rw c.as_ref.ensures.value at c.new-pushing.ensures in
     let whose : made.client ≡ client = c.in-Ok.ensures.client ∙ asking in
-    let free : push_fault client.client_id (Some pairs) ≡ None = rw (all, asking) at c.in-Ok.ensures.ok in
+    let free : push_fault client.client_id client.endpoint auth.url (Some pairs) ≡ None = rw (all, asking) at c.in-Ok.ensures.ok in
     sent_told client auth pairs made c.args.http_client.now c.request-end.new.http_client c.show_pushed.new.events
     status c.request-end.result (made_of made client pairs whose found) free c.request-end.ensures.once fed printed)
     c.show_pushed.ensures
@@ -33,6 +33,6 @@ returns-in-Err c =
     (λ status told. λ fed pairs extends.
     let all = added-extended auth.url c.args.url.now pairs extends in
     let asking : c.new-pushing.result ≡ client = rw c.as_ref.ensures.value at c.new-pushing.ensures in
-    let why : (c.in-Err.fault ≡ Memory) ⊎ (push_fault client.client_id (Some pairs) ≡ Some c.in-Err.fault) = rw (all, asking) at c.in-Err.ensures.err in
+    let why : (c.in-Err.fault ≡ Memory) ⊎ (push_fault client.client_id client.endpoint auth.url (Some pairs) ≡ Some c.in-Err.fault) = rw (all, asking) at c.in-Err.ensures.err in
     refused_told client auth pairs (client_replies c.args.http_client.now) _ _ status c.in-Err.fault why told.0 told.1)
     c.show_push_fault.ensures

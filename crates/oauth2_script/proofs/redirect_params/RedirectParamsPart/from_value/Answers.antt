@@ -9,7 +9,7 @@ pub returns-in_err-issuer_compared-clause-read : goal.returns-in_err-issuer_comp
 unfolding redirect_params
 returns-in_err-issuer_compared-clause-read c =
     let refused : TellsPartError c.in_err-issuer_compared.field-0.0 (redirect_params (view c.args.value.now)) =
-    rw (c.in_ok-state.ensures.read, c.in_ok-redirect.ensures.read, c.in_ok-issuer.ensures.read)
+    rw (c.in_ok-state.ensures.read, c.in_ok-redirect.ensures.read, c.in_ok-login.ensures.read, c.in_ok-issuer.ensures.read)
     (Refuses-then c.in_err-issuer_compared.field-0.0 _ _ c.in_err-issuer_compared.ensures.read) in
     Gives-refused _ c.from_residual-in_err-issuer_compared.result c.in_err-issuer_compared.field-0.0 _ c.from_residual-in_err-issuer_compared.ensures.1 refused
 
@@ -17,12 +17,12 @@ pub returns-in_err-issuer_of-clause-read : goal.returns-in_err-issuer_of-clause-
 unfolding redirect_params
 returns-in_err-issuer_of-clause-read c =
     let refused : TellsPartError c.in_err-issuer_of.field-0.0 (redirect_params (view c.args.value.now)) =
-    rw (c.in_ok-state.ensures.read, c.in_ok-redirect.ensures.read, c.in_ok-issuer.ensures.read, c.in_ok-issuer_compared.ensures.read)
+    rw (c.in_ok-state.ensures.read, c.in_ok-redirect.ensures.read, c.in_ok-login.ensures.read, c.in_ok-issuer.ensures.read, c.in_ok-issuer_compared.ensures.read)
     (Refuses-then c.in_err-issuer_of.field-0.0 _ _ c.in_err-issuer_of.ensures) in
     Gives-refused _ c.from_residual-in_err-issuer_of.result c.in_err-issuer_of.field-0.0 _ c.from_residual-in_err-issuer_of.ensures.1 refused
 
 pub returns-clause-read : goal.returns-clause-read
 unfolding redirect_params
 returns-clause-read c =
-    rw (c.in_ok-state.ensures.read, c.in_ok-redirect.ensures.read, c.in_ok-issuer.ensures.read, c.in_ok-issuer_compared.ensures.read, c.in_ok-issuer_of.ensures)
+    rw (c.in_ok-state.ensures.read, c.in_ok-redirect.ensures.read, c.in_ok-login.ensures.read, c.in_ok-issuer.ensures.read, c.in_ok-issuer_compared.ensures.read, c.in_ok-issuer_of.ensures)
     (search rules)
