@@ -1,7 +1,7 @@
 -- What a login sends to the authorization endpoint, and what it means that its code was exchanged.
 use Rattle.std.specs.Prelude.{◌≡◌, ℕ, List, [], ◌∷◌, ◌++◌, codes, Some, Result, Ok, option_map}
 use Rattle.serde_json.specs.Data.{Data}
-use Rattle.url.specs.Parts.{serialize}
+use Rattle.url.specs.Parts.{Parts, serialize}
 use Rattle.oauth2_json.specs.Reading.{Reading}
 use Rattle.oauth2_types.specs.Pkce.{sha256_challenge}
 use Rattle.oauth2_urls.specs.Addressed.{Addressed}
@@ -14,9 +14,9 @@ use Rattle.oauth2_requests.specs.Code.{code_configuration}
 use Rattle.oauth2.specs.Settings.{Settings}
 use Rattle.oauth2_redirect.specs.End.{login_exchange}
 use Rattle.oauth2_redirect.specs.Login.{LoginView}
-use Rattle.oauth2_redirect.specs.Redirect.{answer}
 use Rattle.oauth2_openid_login.specs.Login.{OpenIdKept}
-use Rattle.oauth2_openid_login.specs.Provider.{Provider, redirect_issuer}
+use Rattle.oauth2_openid_login.specs.Provider.{Provider}
+use Rattle.oauth2_openid_login.specs.Refusal.{AuthorizesOpenIdLogin}
 
 -- the parameters that a login adds to the authorization URL (RFC 6749, section 4.1.1)
 abbrev pub login_pairs : Settings → List ℕ → List Pair
@@ -55,13 +55,13 @@ module _ {A E RE C : Type 0} where
       × (reply : HttpResponse) × step before request (Ok reply) after
       × (answer_of client.reply_rule reading error_reading (reply_of reply) ≡ accepted response)
 
-  -- a redirect with these parameters has a code of this login, the token request with it is
-  -- answered, and `Says` holds of what the reply is read as
+  -- a redirect to this URL with these parameters has a code of this login at this provider, the token
+  -- request with it is answered, and `Says` holds of what the reply is read as
   abbrev pub GetsResponse : (Data → Reading A) → (Data → Reading E)
       → (C → HttpRequest → Result HttpResponse RE → C → Type 0)
-      → Settings → OpenIdKept → Provider → List Pair → C → C → (A → Type 0) → Type 0
-  GetsResponse reading error_reading step client login provider pairs before after Says =
-      (code : List ℕ) × (answer login.login.state (redirect_issuer provider) pairs ≡ Ok code)
+      → Settings → OpenIdKept → Provider → Parts → List Pair → C → C → (A → Type 0) → Type 0
+  GetsResponse reading error_reading step client login provider called pairs before after Says =
+      (code : List ℕ) × AuthorizesOpenIdLogin client login provider called pairs code
       × (response : A)
       × IsAnsweredBy reading error_reading step client login.login code before response after
       × Says response

@@ -17,9 +17,10 @@ use oauth2::{
     HttpResponse, PkceCodeVerifier, RedirectUrl, TokenResponse, TokenUrl, code_flow,
 };
 use oauth2_openid_login::{
-    OpenIdClient, OpenIdLogin, OpenIdLoginEnd, OpenIdLoginError, OpenIdTokenResponse,
+    OpenIdClient, OpenIdLogin, OpenIdLoginEnd, OpenIdLoginError, OpenIdLoginRefusal,
+    OpenIdTokenResponse, RefusedOpenIdLogin,
 };
-use oauth2_redirect::{ExpectedIssuer, RedirectError};
+use oauth2_redirect::{LoginIssuer, LoginRefusal, RedirectError};
 use oauth2_refusals_support::{Repeated, VERIFIER};
 use std::process::Abort;
 
@@ -134,7 +135,9 @@ fn reply(rt: &(impl Abort + AllocGlobal), body: &str) -> HttpResponse {
 // Starts a login of this client, and asserts its URL.
 fn started(rt: &(impl Abort + AllocGlobal), client: &OpenIdClient) -> OpenIdLogin {
     let mut rng = Repeated(0);
-    let (url, login) = start_login(rt.alloc(), client, &mut rng).expect(rt, "a login");
+    let (url, login) = start_login(rt.alloc(), client, &provider(ISSUER), &mut rng).expect(
+        rt, "a login",
+    );
     assert_text(
         rt,
         url.as_str(),
@@ -147,11 +150,19 @@ fn started(rt: &(impl Abort + AllocGlobal), client: &OpenIdClient) -> OpenIdLogi
 
 // The redirect of a login, with this state.
 fn redirect_with(rt: &(impl Abort + AllocGlobal), state: &str) -> Url {
+    redirect_from(rt, state, "https%3A%2F%2Fas.example")
+}
+
+// The redirect of a login, with this state, from this issuer.
+fn redirect_from(rt: &(impl Abort + AllocGlobal), state: &str, issuer: &str) -> Url {
     let redirect = format!(in rt.alloc();
-        "https://app.example/cb?code=ccc&state={state}&iss=https%3A%2F%2Fas.example"
+        "https://app.example/cb?code=ccc&state={state}&iss={issuer}"
     ).expect(rt, "a text");
     Url::parse(rt.alloc(), redirect.as_str()).expect(rt, "a URL")
 }
+
+// The issuer of the provider.
+const ISSUER: &str = "https://as.example";
 
 type Ended = Result<
     OpenIdLoginEnd<OpenIdTokenResponse>,
@@ -170,7 +181,7 @@ fn ends(rt: &(impl Abort + AllocGlobal), state: &str, body: &str) -> Ended {
         &mut CannedClient::new(reply(rt, body)),
         login,
         &redirect,
-        &provider("https://as.example"),
+        &provider(ISSUER),
         || now,
     )
 }
@@ -196,10 +207,12 @@ fn name_of(ended: &Ended) -> &'static str {
         return "a user";
     };
     match error {
-        OpenIdLoginError::Redirect {
-            error: RedirectError::OtherState,
-            ..
-        } => "another state",
+        OpenIdLoginError::Refused(
+            RefusedOpenIdLogin {
+                error: OpenIdLoginRefusal::Login(LoginRefusal::Redirect(RedirectError::OtherState)),
+                ..
+            },
+        ) => "another state",
         OpenIdLoginError::NoIdToken => "no ID token",
         OpenIdLoginError::Token(_) => "no token response",
         _ => "another error",
@@ -226,13 +239,14 @@ fn open_id_login_without_a_user(rt: HostRuntime) {
 
 // Starts a login of this client, asserts its URL, and returns the text to keep with the session.
 fn start_web_login(rt: &(impl Abort + AllocGlobal), client: &CodeClient) -> String {
-    let (url, session) = begin(rt.alloc(), client, &mut Repeated(0)).expect(rt, "a login");
+    let issuer = LoginIssuer::InEachRedirect(text(rt, "https://example.com"));
+    let (url, session) = begin(rt.alloc(), client, issuer, &mut Repeated(0)).expect(rt, "a login");
     assert_text(
         rt,
         url.as_str(),
         "https://example.com/auth?response_type=code&client_id=aaa&state=AAAAAAAAAAAAAAAAAAAAAA\
          &code_challenge=DwBzhbb51LfusnSGBa_hqYSgo7-j8BTQnip4TOnlzRo&code_challenge_method=S256\
-         &scope=profile",
+         &redirect_uri=https%3A%2F%2Fapp.example%2Fcb&scope=profile",
     );
     session
 }
@@ -244,15 +258,13 @@ fn token_after(
     session: &str,
 ) -> BasicTokenResponse {
     let body = r#"{"access_token":"a","token_type":"bearer"}"#;
-    let redirect = "https://app.example/cb?code=ccc&state=AAAAAAAAAAAAAAAAAAAAAA";
-    let redirect = Url::parse(rt.alloc(), redirect).expect(rt, "a URL");
+    let redirect = redirect_from(rt, STATE, "https%3A%2F%2Fexample.com");
     let token = end(
         rt.alloc(),
         client,
         &mut CannedClient::new(reply(rt, body)),
         session,
         &redirect,
-        ExpectedIssuer::Unknown,
     );
     token.expect(rt, "a token")
 }
@@ -260,7 +272,8 @@ fn token_after(
 // A login that is stored as a text between its two steps.
 #[test]
 fn web_login(rt: HostRuntime) {
-    let client = client(&rt, AUTH, TOKEN);
+    let redirect = RedirectUrl::new(rt.alloc(), text(&rt, "https://app.example/cb"));
+    let client = client(&rt, AUTH, TOKEN).set_redirect_uri(redirect.expect(&rt, "a URL"));
     let session = start_web_login(&rt, &client);
     let token = token_after(&rt, &client, session.as_str());
     assert_text(&rt, token.access_token().secret().as_str(), "a");

@@ -1,10 +1,9 @@
 -- Want of memory inside a keeper's call tells whether its client was called.
-use Rattle.std.proofs.Common.{◌≡◌, ℕ, List, ◌+◌, ◌-◌, ◌^◌, true, false, Ok, Err, inl, inr, sym, ap, ◌∙◌, subst}
+use Rattle.std.proofs.Common.{◌≡◌, ℕ, List, ◌+◌, ◌-◌, ◌^◌, true, false, Ok, Err, sym, ap, ◌∙◌, subst}
 use Rattle.std.specs.Prelude.{ℤ, min, Result}
 use Rattle.serde_json.specs.Data.{Data}
 use Rattle.oauth2_json.specs.Reading.{Reading}
 use Rattle.oauth2_wire.specs.Once.{AsksOnce}
-use Rattle.oauth2_wire.proofs.OnceLemmas.{AsksOnce-accepted}
 use Rattle.oauth2_wire.specs.Request.{HttpRequest, RequestView, IsRequestOf}
 use Rattle.oauth2_wire.specs.Reply.{HttpResponse, ReplyView, Answer, answer_of}
 use Rattle.oauth2_wire.specs.declared.error.RequestTokenError.{RequestTokenError}
@@ -31,21 +30,14 @@ module _ {D A T E : Type 0} (meaning : D → A) (error_meaning : T → E) (befor
     told_of_request (token.Parse fault body) asked = tt
     told_of_request (token.Other text) asked = tt
 
-    -- of one whose reply is read
-    told_of_reply : (reply : D) → AsksOnce meaning error_meaning Counts says IsRequest url before (Ok reply) after → after.calls ≡ 1
-    told_of_reply value asked =
-        let sent = AsksOnce-accepted meaning error_meaning Counts says IsRequest url before after value asked in called sent.0 (Ok sent.2) sent.3
-
   module _ (reading : Data → Reading A) (error_reading : Data → Reading E) (given : D → Given) (keeper : Keeper) (now : ℤ) where
     told_of_outcome : (result : Result Unit (RequestTokenError NoReply T)) (outcome : Outcome)
         → IsOutcome (λ rule. AsksOnce meaning error_meaning Counts (answer_of rule reading error_reading)) given keeper now before result after outcome → TellsCalls result after
     told_of_outcome (Ok done) outcome is = tt
     told_of_outcome (Err error) quiet (good, is, same) = cc
     told_of_outcome (Err error) (accepted given) (stale, is, renews) = cc
-    told_of_outcome result failed (stale, (error, is, inl (endpoint, there, asked))) =
+    told_of_outcome result failed (stale, (error, is, (endpoint, there, asked))) =
         subst (λ r. TellsCalls r after) (sym is) (told_of_request (answer_of keeper.client.reply_rule reading error_reading) (IsRequestOf _) _ error asked)
-    told_of_outcome result failed (stale, (error, is, inr (memory, (reply, (endpoint, there, asked))))) =
-        subst (λ r. TellsCalls r after) (sym (is ∙ ap (λ e. Err e) memory)) (told_of_reply (answer_of keeper.client.reply_rule reading error_reading) (IsRequestOf _) _ reply asked)
 
     pub told_of_call : (result : Result Unit (RequestTokenError NoReply T)) (kept : Keeper)
         → KeeperCalls (λ rule. AsksOnce meaning error_meaning Counts (answer_of rule reading error_reading)) given keeper now before result after kept → TellsCalls result after

@@ -66,7 +66,7 @@ fn new_keeper(client: &RowClient) -> RowKeeper<'_> {
         margin: Duration::from_secs(10),
         default_lifetime: Duration::from_secs(60),
     };
-    TokenKeeper::new(client, None, times)
+    TokenKeeper::with_times(client, None, times)
 }
 
 /// Calls a keeper at a time, with an HTTP client that was not called before.

@@ -8,7 +8,9 @@ use crate::urls::redirect_url;
 use oauth2::basic::{BasicErrorResponse, BasicTokenResponse};
 use oauth2::url::Url;
 use oauth2::{RedirectUrl, Scope};
-use oauth2_redirect::{ExpectedIssuer, Login, LoginError, LoginRequest, RedirectError};
+use oauth2_redirect::{
+    Login, LoginError, LoginIssuer, LoginRefusal, LoginRequest, LoginUrlFault, RedirectError,
+};
 use oauth2_refusals_support::{Ended, Repeated, Want, text};
 use std::alloc::Global;
 use std::io::Write;
@@ -68,8 +70,7 @@ fn show_login<W: Write>(
     out: &mut W,
 ) -> Result<(), Ended> {
     let login = show_started(alloc, client, redirect_uri, out)?;
-    let issuer = ExpectedIssuer::Unknown;
-    let finished = login.finish(alloc, client, http_client, callback, issuer);
+    let finished = login.finish(alloc, client, http_client, callback);
     show_finished(out, http_client, &finished)
 }
 
@@ -88,7 +89,8 @@ fn show_started<W: Write>(
 
 fn started(alloc: Global, client: &RowClient) -> Result<LoginRequest<'_>, Ended> {
     let scope = Scope::new(text(alloc, "read")?);
-    let request = Login::start(alloc, client, &mut Repeated(0))?;
+    let issuer = LoginIssuer::OwnRedirectUri(None);
+    let request = Login::start(alloc, client, issuer, &mut Repeated(0))?;
     Ok(request.add_scope(scope)?)
 }
 
@@ -98,8 +100,16 @@ fn url_of(alloc: Global, request: LoginRequest<'_>) -> Result<(Url, Login), Ende
         Ok(made) => Ok(made),
         Err(refused) => match refused.request.url(alloc) {
             Ok(made) => Ok(made),
-            Err(refused) => Err(refused.error.into()),
+            Err(refused) => Err(ended(refused.error)),
         },
+    }
+}
+
+// What the fault of a URL ends a row with.
+fn ended(fault: LoginUrlFault) -> Ended {
+    match fault {
+        LoginUrlFault::NoRedirectUri => Ended::Refused,
+        LoginUrlFault::TooLong | LoginUrlFault::Memory => Ended::Starved(Want::ParseError),
     }
 }
 
@@ -120,8 +130,10 @@ fn show_end<W: Write>(out: &mut W, finished: &Finished) -> Result<(), Ended> {
     match finished {
         Ok(token) => show_token(out, token),
         Err(LoginError::Token(error)) => show_failure(out, error),
-        Err(LoginError::Redirect { error, login: _ }) => match error {
-            RedirectError::Memory => Err(Ended::Starved(Want::RedirectError)),
+        Err(LoginError::Refused(refused)) => match &refused.error {
+            LoginRefusal::Redirect(RedirectError::Memory) => {
+                Err(Ended::Starved(Want::RedirectError))
+            }
             _ => Err(Ended::Refused),
         },
     }

@@ -72,7 +72,7 @@ fn keeper<'a>(
         margin: Duration::from_secs(MARGIN_SECONDS),
         default_lifetime: Duration::from_secs(LIFETIME_SECONDS),
     };
-    let mut keeper: BasicTokenKeeper<'a> = TokenKeeper::new(client, None, times);
+    let mut keeper: BasicTokenKeeper<'a> = TokenKeeper::with_times(client, None, times);
     restore(rt, &mut keeper, store)?;
     keeper.add_scopes(rt.alloc(), settings.scopes()?)?;
     if let Some(audience) = settings.optional::<String>("audience")? {

@@ -12,7 +12,7 @@ use oauth2::{
 };
 use oauth2_metadata::{MetadataRequest, ServerMetadata};
 use oauth2_pushed_login::{LoginRoute, PushMetadata, PushPreference, login_route};
-use oauth2_redirect::{ExpectedIssuer, Login};
+use oauth2_redirect::{Login, LoginIssuer};
 use rand::rngs::StdRng;
 use std::alloc::Global;
 
@@ -26,7 +26,9 @@ const METADATA: &str = r#"{"issuer":"https://as.example",
 const PUSHED: &str = r#"{"request_uri":"urn:example:bwc4JK-ESC0w8acc191e-Y1LTC2","expires_in":60}"#;
 
 // A login as the first handler keeps it, and the redirect with which its user comes back.
-const KEPT: &str = r#"{"redirect_uri":"https://app.example/back","state":"af0ifjsldkj",
+const KEPT: &str = r#"{"client_id":"app","issuer":"https://as.example",
+    "issuer_in_each_redirect":false,"redirect_uri":"https://app.example/back",
+    "state":"af0ifjsldkj","token_url":"https://as.example/token",
     "verifier":"dBjftJeZ4CVP-mB92K27uhbUJU1p1r_wW1gFWFOEjXk"}"#;
 
 const REDIRECT: &str =
@@ -69,7 +71,8 @@ fn start(
 ) -> anyhow::Result<(Url, String)> {
     let alloc = rt.alloc();
     let mut rng: StdRng = rand::make_rng(rt)?;
-    let (url, login) = Login::start(alloc, route.client(), &mut rng)?.url(alloc)?;
+    let issuer = LoginIssuer::OwnRedirectUri(Some(String::from_str(alloc, ISSUER)?));
+    let (url, login) = Login::start(alloc, route.client(), issuer, &mut rng)?.url(alloc)?;
     let kept = compact(alloc, &login)?;
     match route {
         LoginRoute::ByUrl(_) => Ok((url, kept)),
@@ -90,8 +93,7 @@ fn finish(
 ) -> anyhow::Result<BasicTokenResponse> {
     let login: Login = read_body(alloc, kept.as_bytes())?;
     let redirect = Url::parse(alloc, redirect)?;
-    let issuer = ExpectedIssuer::Compared(ISSUER);
-    Ok(login.finish(alloc, route.client(), http_client, &redirect, issuer)?)
+    Ok(login.finish(alloc, route.client(), http_client, &redirect)?)
 }
 
 fn run(rt: &HostRuntime, route: &Route, http_client: &mut CannedClient<'_>) -> anyhow::Result<()> {

@@ -5,7 +5,7 @@ use crate::canned_client::CannedClient;
 use oauth2::basic::{BasicClient, BasicTokenClient};
 use oauth2::url::ParseError;
 use oauth2::{ClientId, RequestTokenError, TokenResponse, TokenUrl};
-use oauth2_client_assertions::{AssertingClient, AssertionSource};
+use oauth2_client_assertions::{AssertingClient, AssertionSource, ServerEndpoints};
 use std::alloc::Global;
 use std::{env, fs, io};
 
@@ -36,7 +36,9 @@ fn run(rt: &HostRuntime, client: &BasicTokenClient, path: &str) -> anyhow::Resul
     let alloc = rt.alloc();
     let replies = [(200, r#"{"access_token":"abc","token_type":"bearer"}"#)];
     let http_client = CannedClient::new(alloc, &replies);
-    let mut http_client = AssertingClient::new(alloc, http_client, AssertionFile { rt, path });
+    let endpoints = ServerEndpoints::new(alloc, client.token_uri().url())?;
+    let source = AssertionFile { rt, path };
+    let mut http_client = AssertingClient::new(alloc, http_client, source, endpoints);
     match client
         .exchange_client_credentials(alloc)
         .request(alloc, &mut http_client)

@@ -1,20 +1,19 @@
 //! The end of a login: from the redirect to the ID token.
 
-use crate::client::{NoReply, OneReply, client};
+use crate::client::{NoReply, OneReply, client, provider};
 use crate::starts::{STORED, stored_login};
 use crate::tokens::{now, show_user};
 use oauth2::RequestTokenError;
 use oauth2::basic::BasicErrorResponse;
 use oauth2::url::Url;
 use oauth2_openid_login::{
-    OpenIdClient, OpenIdLogin, OpenIdLoginEnd, OpenIdLoginError, OpenIdProvider,
-    OpenIdTokenResponse,
+    OpenIdClient, OpenIdLogin, OpenIdLoginEnd, OpenIdLoginError, OpenIdLoginRefusal,
+    OpenIdTokenResponse, RefusedOpenIdLogin,
 };
-use oauth2_redirect::RedirectError;
+use oauth2_redirect::{LoginRefusal, RedirectError};
 use oauth2_refusals_support::{Ended, Want};
 use std::alloc::Global;
 use std::io::Write;
-use std::time::Duration;
 
 // The redirect of the standard's example (3.1.2.5), with the issuer (RFC 9207).
 const REDIRECT: &str = "https://client.example.org/cb?code=SplxlOBeZQQYbYS6WxSbIA&state=af0ifjsldkj\
@@ -35,13 +34,6 @@ type End = Result<
     OpenIdLoginEnd<OpenIdTokenResponse>,
     OpenIdLoginError<NoReply, BasicErrorResponse>,
 >;
-
-// The provider of the standard's examples.
-fn provider() -> OpenIdProvider<'static> {
-    OpenIdProvider::new("http://server.example.com", Duration::from_secs(60))
-        .set_tells_issuer_in_redirect(true)
-        .set_algorithm("RS256")
-}
 
 /// Finishes the stored login, and prints the result.
 pub fn show_login<W: Write>(alloc: Global, out: &mut W) -> Result<bool, Ended> {
@@ -66,7 +58,7 @@ fn show_finished<W: Write>(
     out: &mut W,
 ) -> Result<bool, Ended> {
     let now = now()?;
-    let end = login.finish(
+    let end = login.finish_without_signature(
         alloc,
         client,
         &mut http_client,
@@ -108,10 +100,12 @@ fn ended(error: OpenIdLoginError<NoReply, BasicErrorResponse>) -> Ended {
         OpenIdLoginError::Token(RequestTokenError::Memory { sent }) => {
             Ended::Starved(Want::RequestTokenError { sent })
         }
-        OpenIdLoginError::Redirect {
-            error: RedirectError::Memory,
-            login: _,
-        } => Ended::Starved(Want::RedirectError),
+        OpenIdLoginError::Refused(
+            RefusedOpenIdLogin {
+                error: OpenIdLoginRefusal::Login(LoginRefusal::Redirect(RedirectError::Memory)),
+                login: _,
+            },
+        ) => Ended::Starved(Want::RedirectError),
         _ => Ended::Refused,
     }
 }

@@ -1,6 +1,6 @@
 //! The start of a login: its URL, and the stored login.
 
-use crate::client::client;
+use crate::client::{client, provider};
 use oauth2::url::Url;
 use oauth2::{RedirectUrl, Scope, compact, read_body};
 use oauth2_openid_login::{OpenIdClient, OpenIdLogin, OpenIdLoginRequest, OpenIdLoginUrlFault};
@@ -14,6 +14,8 @@ use std::time::Duration;
 pub const STORED: &str =
     "{\"state\":\"af0ifjsldkj\",\"verifier\":\"dBjftJeZ4CVP-mB92K27uhbUJU1p1r_wW1gFWFOEjXk\",\
     \"redirect_uri\":\"https://client.example.org/cb\",\"nonce\":\"n-0S6_WzA2Mj\",\
+    \"client_id\":\"s6BhdRkqt3\",\"token_url\":\"https://server.example.com/token\",\
+    \"issuer\":\"http://server.example.com\",\"issuer_in_each_redirect\":true,\
     \"max_age\":100,\"user\":null}";
 
 /// Starts a login with everything set, and prints its URL and the stored login.
@@ -30,7 +32,7 @@ fn started<'a>(
     client: &'a OpenIdClient,
     rng: &mut Pcg32,
 ) -> Result<OpenIdLoginRequest<'a>, Ended> {
-    let request = OpenIdLogin::start(alloc, client, rng)?;
+    let request = OpenIdLogin::start(alloc, client, &provider(), rng)?;
     let request = request.set_max_age(alloc, Duration::from_millis(3_600_999))?;
     let request = request.add_extra_param("prompt".into(), "consent".into())?;
     with_scopes(alloc, request)

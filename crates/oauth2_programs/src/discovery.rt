@@ -5,7 +5,7 @@ use oauth2::basic::BasicClient;
 use oauth2::url::Url;
 use oauth2::{ClientId, EndpointMaybeSet, EndpointSet, RedirectUrl};
 use oauth2_metadata::{MetadataRequest, ServerMetadata};
-use oauth2_redirect::Login;
+use oauth2_redirect::{Login, LoginIssuer};
 use rand::rngs::StdRng;
 use std::alloc::Global;
 
@@ -39,10 +39,23 @@ fn client(alloc: Global, metadata: &ServerMetadata) -> anyhow::Result<FoundClien
     Ok(metadata.login_client_of(alloc, client)?)
 }
 
+/// The server's issuer, which each redirect must name if the metadata says that it does (RFC 9207).
+fn issuer(alloc: Global, metadata: &ServerMetadata) -> anyhow::Result<LoginIssuer> {
+    let issuer = String::from_str(alloc, metadata.issuer())?;
+    if metadata.authorization_response_iss_parameter_supported() {
+        return Ok(LoginIssuer::InEachRedirect(issuer));
+    }
+    Ok(LoginIssuer::OwnRedirectUri(Some(issuer)))
+}
+
 /// The URL to send a user to, and what to keep until the user is back.
-fn start(rt: &HostRuntime, client: &FoundClient) -> anyhow::Result<(Url, Login)> {
+fn start(
+    rt: &HostRuntime,
+    client: &FoundClient,
+    issuer: LoginIssuer,
+) -> anyhow::Result<(Url, Login)> {
     let mut rng: StdRng = rand::make_rng(rt)?;
-    Ok(Login::start(rt.alloc(), client, &mut rng)?.url(rt.alloc())?)
+    Ok(Login::start(rt.alloc(), client, issuer, &mut rng)?.url(rt.alloc())?)
 }
 
 /// Finds the endpoints, and starts a login.
@@ -52,7 +65,7 @@ pub fn main(rt: HostRuntime) -> anyhow::Result<()> {
     let mut http_client = CannedClient::new(alloc, &replies);
     let metadata = metadata(alloc, &mut http_client, "https://as.example")?;
     let client = client(alloc, &metadata)?;
-    let (url, _login) = start(&rt, &client)?;
+    let (url, _login) = start(&rt, &client, issuer(alloc, &metadata)?)?;
     eprintln!(rt; "browse to: {url}")?;
     println!(rt; "users log in at: {}", client.auth_uri().as_str())?;
     Ok(())

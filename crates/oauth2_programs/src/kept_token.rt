@@ -33,7 +33,7 @@ fn run(rt: &HostRuntime, client: &BasicTokenClient) -> anyhow::Result<()> {
         margin: Duration::from_secs(30),
         default_lifetime: Duration::from_secs(60),
     };
-    let mut keeper = TokenKeeper::new(client, None, times);
+    let mut keeper = TokenKeeper::with_times(client, None, times);
     for second in [0, 100, 269, 271, 500] {
         let now = Timestamp::from_second(second)?;
         let token = keeper.token(alloc, now, &mut http_client)?;

@@ -5,7 +5,7 @@ use crate::canned_client::CannedClient;
 use oauth2::basic::{BasicClient, BasicLoginClient};
 use oauth2::url::{ParseError, Url};
 use oauth2::{AuthUrl, ClientId, RedirectUrl, Scope, TokenResponse, TokenUrl};
-use oauth2_redirect::{ExpectedIssuer, Login};
+use oauth2_redirect::{Login, LoginIssuer};
 use rand::rngs::StdRng;
 use std::alloc::Global;
 
@@ -27,15 +27,17 @@ fn start(rt: &HostRuntime, client: &BasicLoginClient) -> anyhow::Result<Login> {
     let alloc = rt.alloc();
     let mut rng: StdRng = rand::make_rng(rt)?;
     let scope = Scope::from_str(alloc, "profile")?;
-    let request = Login::start(alloc, client, &mut rng)?.add_scope(scope)?;
+    let issuer = LoginIssuer::OwnRedirectUri(Some(String::from_str(alloc, "https://as.example")?));
+    let request = Login::start(alloc, client, issuer, &mut rng)?.add_scope(scope)?;
     let (url, login) = request.url(alloc)?;
     println!(rt; "browse to: {url}")?;
     println!(rt; "and paste the URL to which the browser came back:")?;
     Ok(login)
 }
 
-/// Reads the redirect, and exchanges its code for a token. It is an error if the redirect has
-/// another state than the login, or an `iss` that is not the server's issuer (RFC 9207).
+/// Reads the redirect, and exchanges its code for a token. It is an error if the redirect came to
+/// another URL than the login's redirect URI, whose port may be any (RFC 8252, section 7.3), or has
+/// another state, or an `iss` that is not the server's issuer (RFC 9207).
 fn finish(rt: &HostRuntime, client: &BasicLoginClient, login: Login) -> anyhow::Result<()> {
     let alloc = rt.alloc();
     let replies = [(200, r#"{"access_token":"abc","token_type":"bearer"}"#)];
@@ -43,8 +45,7 @@ fn finish(rt: &HostRuntime, client: &BasicLoginClient, login: Login) -> anyhow::
     let mut line = String::new(alloc);
     rt.read_line(&mut line)?;
     let redirect = Url::parse(alloc, line.as_str().trim())?;
-    let issuer = ExpectedIssuer::Compared("https://as.example");
-    let token = login.finish(alloc, client, &mut http_client, &redirect, issuer)?;
+    let token = login.finish(alloc, client, &mut http_client, &redirect)?;
     println!(rt; "token: {}", token.access_token().secret())?;
     Ok(())
 }

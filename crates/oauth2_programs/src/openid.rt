@@ -5,15 +5,18 @@ use crate::canned_client::CannedClient;
 use jiff::Timestamp;
 use oauth2::url::{ParseError, Url};
 use oauth2::{AuthUrl, Client, ClientId, RedirectUrl, Scope, TokenUrl, compact, read_body};
-use oauth2_openid_login::{OpenIdClient, OpenIdLogin, OpenIdProvider};
+use oauth2_openid_login::{OpenIdClient, OpenIdLogin, OpenIdProvider, RedirectIssuer};
 use rand::rngs::StdRng;
 use std::alloc::Global;
 use std::time::Duration;
 
 // A login as the first handler keeps it, the redirect with which its user comes back, and the reply
 // to its code, from the standard's examples.
-const KEPT: &str = r#"{"nonce":"n-0S6_WzA2Mj","redirect_uri":"https://client.example.org/cb",
-    "state":"af0ifjsldkj","verifier":"dBjftJeZ4CVP-mB92K27uhbUJU1p1r_wW1gFWFOEjXk"}"#;
+const KEPT: &str = r#"{"client_id":"s6BhdRkqt3","issuer":"http://server.example.com",
+    "issuer_in_each_redirect":false,"nonce":"n-0S6_WzA2Mj",
+    "redirect_uri":"https://client.example.org/cb","state":"af0ifjsldkj",
+    "token_url":"https://server.example.com/token",
+    "verifier":"dBjftJeZ4CVP-mB92K27uhbUJU1p1r_wW1gFWFOEjXk"}"#;
 
 const REDIRECT: &str =
     "https://client.example.org/cb?code=SplxlOBeZQQYbYS6WxSbIA&state=af0ifjsldkj";
@@ -37,7 +40,12 @@ fn client(alloc: Global) -> Result<OpenIdClient, ParseError> {
 }
 
 fn provider() -> OpenIdProvider<'static> {
-    OpenIdProvider::new("http://server.example.com", Duration::from_secs(60)).set_algorithm("RS256")
+    OpenIdProvider::new(
+        "http://server.example.com",
+        RedirectIssuer::OwnRedirectUri,
+        Duration::from_secs(60),
+    )
+    .set_algorithm("RS256")
 }
 
 /// The first handler: the URL to send the user to, and what to keep with the session.
@@ -45,7 +53,7 @@ fn start(rt: &HostRuntime, client: &OpenIdClient) -> anyhow::Result<(Url, String
     let alloc = rt.alloc();
     let mut rng: StdRng = rand::make_rng(rt)?;
     let scope = Scope::from_str(alloc, "email")?;
-    let request = OpenIdLogin::start(alloc, client, &mut rng)?.add_scope(scope)?;
+    let request = OpenIdLogin::start(alloc, client, &provider(), &mut rng)?.add_scope(scope)?;
     let (url, login) = request.url(alloc)?;
     Ok((url, compact(alloc, &login)?))
 }
@@ -63,7 +71,7 @@ fn finish(
     let mut http_client = CannedClient::new(alloc, &replies);
     let login: OpenIdLogin = read_body(alloc, kept.as_bytes())?;
     let redirect = Url::parse(alloc, redirect)?;
-    let end = login.finish(
+    let end = login.finish_without_signature(
         alloc,
         client,
         &mut http_client,
