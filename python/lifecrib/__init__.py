@@ -14,8 +14,9 @@ if TYPE_CHECKING:
     from ._client import AsyncClient, AsyncDevice, AsyncKeeper, AsyncLogin, Client, Device, Keeper, Login
     from ._data import Claims, Introspection, Metadata, Reply, Request, Token
     from ._errors import (BadAccessToken, BadClaims, BadIssuer, BadKeys, BadMetadata, BadPush, BadScript, BadSignature,
-                          BadToken, Ended, ErrorResponse, InsecureEndpoint, LifecribError, MissingEndpoint, OtherError,
-                          OtherIssuer, OtherStatus, OutOfMemory, RefusedRedirect, RequestFailed, TakenParameter,
+                          BadToken, Ended, ErrorResponse, InsecureEndpoint, LifecribError, MissingEndpoint,
+                          OtherClient, OtherError, OtherIssuer, OtherRedirectUri, OtherStatus, OtherTokenEndpoint,
+                          OutOfMemory, RefusedRedirect, RequestFailed, TakenParameter, UnboundLogin,
                           UncheckedSignature, UnreadReply, Waiting)
     from ._library import Run, run_script
     from ._transport import (AiohttpTransport, AsyncHttpxTransport, AsyncTransport, HttpxTransport, RequestsTransport,
@@ -27,9 +28,10 @@ __all__ = [
     'AsyncTransport', 'BadAccessToken', 'BadClaims', 'BadIssuer', 'BadKeys', 'BadMetadata', 'BadPush', 'BadScript',
     'BadSignature', 'BadToken', 'Claims', 'Client', 'Device', 'Ended', 'ErrorResponse', 'HttpxTransport',
     'InsecureEndpoint', 'Introspection', 'Keeper', 'LifecribError', 'Login', 'Metadata', 'MissingEndpoint',
-    'OtherError', 'OtherIssuer', 'OtherStatus', 'OutOfMemory', 'RefusedRedirect', 'Reply', 'Request', 'RequestFailed',
-    'RequestsTransport', 'Run', 'TakenParameter', 'ThreadTransport', 'Token', 'TooLarge', 'Transport',
-    'UncheckedSignature', 'UnreadReply', 'UrllibTransport', 'Waiting', 'check_access_token', 'run_script']
+    'OtherClient', 'OtherError', 'OtherIssuer', 'OtherRedirectUri', 'OtherStatus', 'OtherTokenEndpoint', 'OutOfMemory',
+    'RefusedRedirect', 'Reply', 'Request', 'RequestFailed', 'RequestsTransport', 'Run', 'TakenParameter',
+    'ThreadTransport', 'Token', 'TooLarge', 'Transport', 'UnboundLogin', 'UncheckedSignature', 'UnreadReply',
+    'UrllibTransport', 'Waiting', 'check_access_token', 'run_script']
 _MODULES = ('_errors', '_library', '_data', '_calls', '_transport', '_client')  # the last ones take longest to load
 
 

@@ -104,7 +104,15 @@ def in_script(reply: Reply) -> dict[str, Any]:
 
 
 class NoReply(Exception):
-    """The transport has no reply to a request; its exception is the __cause__."""
+    """The transport has no reply to a request for url; its exception is the __cause__."""
+
+    def __init__(self, url: str) -> None:
+        super().__init__()
+        self.url = url
+
+    def named(self, error: LifecribError) -> LifecribError:
+        """The error of the call, which then says where the request was to go."""
+        return error.to(self.url) if isinstance(error, RequestFailed) else error
 
 
 def reply_to(self: Settings, request: Request) -> Call[Reply]:
@@ -117,7 +125,7 @@ def reply_to(self: Settings, request: Request) -> Call[Reply]:
     except MemoryError:
         raise
     except Exception as error:
-        raise NoReply from error
+        raise NoReply(request.url) from error
 
 
 def exchange(self: Settings, command: str, params: Mapping[str, Any]) -> Call[_library.Run]:
@@ -129,7 +137,7 @@ def exchange(self: Settings, command: str, params: Mapping[str, Any]) -> Call[_l
     try:
         reply = yield from reply_to(self, request_of(shown[0]))
     except NoReply as failed:
-        raise first.error() from failed.__cause__
+        raise failed.named(first.error()) from failed.__cause__
     return self.run(command, params, [in_script(reply)])
 
 
@@ -279,7 +287,7 @@ def fetch_keys(self: Settings) -> Call[Any]:
     try:
         reply = yield from reply_to(self, Request('GET', url, (('accept', 'application/json'),), b''))
     except NoReply as failed:
-        raise RequestFailed('Request failed') from failed.__cause__
+        raise failed.named(RequestFailed('Request failed')) from failed.__cause__
     found = value(reply.body) if reply.status == 200 else None
     if not isinstance(found, dict):
         raise BadKeys('there is no key set at jwks_uri', status=reply.status, content_type=reply.content_type)

@@ -42,7 +42,7 @@ class DeviceState(Generic[S]):
         self.wait = 0.0
         self._replies: list[dict[str, Any]] = []  # to the polls so far
         self._readings = [asked.asked_at]  # when the codes were asked for, and at each of the replies
-        self._why: Optional[BaseException] = None  # why the last poll has no reply
+        self._why: Optional[_calls.NoReply] = None  # why the last poll has no reply
 
     def __repr__(self) -> str:
         return '%s(%r, %r)' % (type(self).__name__, self.user_code, self.verification_uri)
@@ -83,7 +83,9 @@ def poll(self: DeviceState[Any], *, timeout: Optional[int] = None) -> Call[Optio
                 replies[-1] = SLOW_DOWN if waits[polls + 1] > waits[polls] else PENDING
             return None
         elif step['event'] == 'fault':
-            raise run.error() from self._why
+            if self._why:
+                raise self._why.named(run.error()) from self._why.__cause__
+            raise run.error()
         else:
             return token_of(run.answer(), run.scopes(), run.members(), at)
 
@@ -96,8 +98,8 @@ def _reply(self: DeviceState[Any], exchange: Mapping[str, Any]) -> Call[dict[str
     except _calls.NoReply as failed:
         why = failed.__cause__
         if isinstance(why, TypeError) or _is_untrusted(why):
-            raise RequestFailed('Request failed') from why
-        self._why = why
+            raise failed.named(RequestFailed('Request failed')) from why
+        self._why = failed
         return NO_REPLY
     self._why = None
     return NO_REPLY if reply.status in TRIED_AGAIN else _calls.in_script(reply)

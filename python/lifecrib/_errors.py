@@ -5,7 +5,8 @@ from typing import Optional
 
 
 class LifecribError(Exception):
-    """A call that has no answer. Beside what a server says of an error, no text of it has a token or a secret.
+    """A call that has no answer. Beside what a server or a transport says of an error, no text of it has a token or a
+    secret.
 
     kind names the fault, and text says it in words. error, error_description and error_uri are those of an error
     response, or of a redirect that has an error. member and cause say what of a reply can not be read. status and
@@ -46,13 +47,27 @@ class InsecureEndpoint(LifecribError):
 
 
 class RequestFailed(LifecribError):
-    """There is no reply. The exception of the transport is the __cause__. The server may have got the request."""
+    """There is no reply. The exception of the transport is the __cause__. The server may have got the request.
+
+    url is where it was to go, without what follows a question mark there.
+    """
 
     kind = 'request_failed'
+    url: Optional[str] = None
+
+    def to(self, url: str) -> RequestFailed:
+        """The same error, which says where the request was to go."""
+        self.url = url.partition('#')[0].partition('?')[0]
+        return self
 
     def __str__(self) -> str:
-        why = self.__cause__
-        return '%s (%s)' % (self.text, type(why).__name__) if why else super().__str__()
+        said, why = super().__str__(), self.__cause__
+        if self.url:
+            said += ': ' + self.url
+        if not why:
+            return said
+        reason = ' '.join(str(why).split())
+        return '%s (%s%s)' % (said, type(why).__name__, ': ' + reason if reason else '')
 
 
 class ErrorResponse(LifecribError):
@@ -81,9 +96,27 @@ class OutOfMemory(LifecribError, MemoryError):
 
 
 class RefusedRedirect(LifecribError):
-    """The redirect of a login has another state, another issuer, an error or no code."""
+    """The redirect of a login has another state, another issuer, an error or no code. No code was sent."""
 
     kind = 'refused_redirect'
+
+
+class OtherClient(RefusedRedirect):
+    """The login began with another client: the id of this one is not the login's. No code was sent."""
+
+    kind = 'other_client'
+
+
+class OtherTokenEndpoint(RefusedRedirect):
+    """The login began at another token endpoint, so at another server (RFC 9700, 4.4). No code was sent."""
+
+    kind = 'other_token_endpoint'
+
+
+class OtherRedirectUri(RefusedRedirect):
+    """The redirect came to another URL than the login's redirect URI (RFC 9700, 2.1). No code was sent."""
+
+    kind = 'other_redirect_uri'
 
 
 class OtherStatus(LifecribError):
@@ -171,6 +204,13 @@ class Ended(LifecribError):
     kind = 'ended'
 
 
+class UnboundLogin(LifecribError, ValueError):
+    """The text of a login does not say at which client, token endpoint and redirect URI it began, as those of older
+    versions: the user has to begin again."""
+
+    kind = 'unbound_login'
+
+
 class BadScript(LifecribError, ValueError):
     """Something that was given is not what it has to be: member says what, as 'client.token_url', and why says why."""
 
@@ -183,5 +223,6 @@ class BadScript(LifecribError, ValueError):
 
 KINDS = {it.kind: it for it in (
     MissingEndpoint, InsecureEndpoint, RequestFailed, ErrorResponse, UnreadReply, OtherError, OutOfMemory,
-    RefusedRedirect, OtherStatus, BadMetadata, OtherIssuer, BadIssuer, BadToken, BadClaims, BadSignature,
-    UncheckedSignature, BadKeys, BadAccessToken, TakenParameter, BadPush)}
+    RefusedRedirect, OtherClient, OtherTokenEndpoint, OtherRedirectUri, OtherStatus, BadMetadata, OtherIssuer,
+    BadIssuer, BadToken, BadClaims, BadSignature, UncheckedSignature, BadKeys, BadAccessToken, TakenParameter,
+    BadPush)}

@@ -85,19 +85,21 @@ def good_token(self: KeeperState[Any]) -> Call[Token]:
         assert self._token
         return self._token
     exchange = exchanges[-1]
-    why: Optional[BaseException] = None
+    why: Optional[_calls.NoReply] = None
     sent = dict(exchange['request']['pairs'])
     if self._is_of_a_user and 'refresh_token' not in sent:
         raise Ended('the token of the user has ended, and there is no refresh token')
     try:
         reply = _calls.in_script((yield from _calls.reply_to(self.client, _calls.request_of(exchange))))
     except _calls.NoReply as failed:
-        reply, why = {'fail': True}, failed.__cause__
+        reply, why = {'fail': True}, failed
     run = self._run([*self._replies, reply], at)
     if run.last['event'] != 'answer':
         held = 1 if self._token else 0
         self._replies, self._readings = [*self._replies[:held], reply], [*self._readings[:held], at]
-        raise run.error() from why
+        if why:
+            raise why.named(run.error()) from why.__cause__
+        raise run.error()
     self._token, self._is_told = _new_token(self, sent.get('refresh_token'), reply, at), False
     self._refresh, self._replies, self._readings = sent.get('refresh_token'), [reply], [at]
     return self._token

@@ -203,13 +203,28 @@ class Stand:
         EVENTS.append({'event': 'url', 'url': url + '?' + query})
         end(0, 'answer', answer=answer)
 
+    def bound(self, login):
+        """A fault where the client or the place of the redirect is not that of the login."""
+        if login['client_id'] != self.client['id']:
+            fault('other_client', 'login is of another client')
+        if login['token_url'] != self.client.get('token_url'):
+            fault('other_token_endpoint', 'login is of another token endpoint')
+        uri, called = (urllib.parse.urlsplit(it) for it in (login['redirect_uri'], self.params['redirect']))
+        is_loopback = uri.scheme == 'http' and uri.hostname in ('127.0.0.1', '::1')
+        pairs, sent = urllib.parse.parse_qsl(uri.query), urllib.parse.parse_qsl(called.query)
+        if ((uri.scheme, uri.hostname, uri.path or '/') != (called.scheme, called.hostname, called.path or '/')
+                or not is_loopback and uri.port != called.port or not all(it in sent for it in pairs)):
+            fault('other_redirect_uri', 'redirect came to another URI')
+
     def redirect(self):
+        if 'login' in self.params:
+            self.bound(self.params['login'])
         query = urllib.parse.urlsplit(self.params['redirect']).query
         said = dict(reversed(urllib.parse.parse_qsl(query)))
         if said.get('state') != self.params['state'] or not said.get('state'):
             fault('refused_redirect', 'redirect has another state')
         needed, compared = self.params.get('issuer'), self.params.get('issuer_compared')
-        if said.get('iss', compared) != (needed or compared):
+        if (needed or compared) and said.get('iss', compared) != (needed or compared):
             fault('refused_redirect', 'redirect has another issuer')
         if 'error' in said:
             about = ''.join(': ' + it for it in [said.get('error_description')] if it)

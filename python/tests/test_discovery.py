@@ -55,7 +55,8 @@ class Discovery(Case):
 
     def test_a_push_endpoint_that_is_no_endpoint(self):
         for url in ('', '/par', 'https:///', 'https://[x', 'http://as.example/par', 1):
-            it, _ = self.discover((200, {**METADATA, 'pushed_authorization_request_endpoint': url}))
+            it, _ = self.discover((200, {**METADATA, 'pushed_authorization_request_endpoint': url}),
+                                  redirect='https://app.example/back')
             self.fails(lifecrib.MissingEndpoint, it.login, push=True)
 
     def test_an_issuer_that_others_could_read(self):

@@ -17,7 +17,7 @@ class Faults(Case):
         for kind, found in _errors.KINDS.items():
             self.assertEqual(found.__name__, ''.join(it.capitalize() for it in kind.split('_')))
             self.assertIs(getattr(lifecrib, found.__name__), found)
-        self.assertEqual(len(_errors.KINDS), 20)
+        self.assertEqual(len(_errors.KINDS), 23)
 
     def test_error_response(self):
         body = {'error': 'invalid_grant', 'error_description': 'who: you (see x)', 'error_uri': 'https://e/'}
@@ -60,7 +60,9 @@ class Faults(Case):
         error = self.fault(lifecrib.RequestFailed, ConnectionRefusedError('at 127.0.0.1'))
         self.assertEqual((error.kind, error.text, error.status), ('request_failed', 'Request failed', None))
         self.assertIsInstance(error.__cause__, ConnectionRefusedError)
-        self.assertEqual(str(error), 'Request failed (ConnectionRefusedError)')
+        told = 'Request failed: https://as.example/token_url (ConnectionRefusedError: at 127.0.0.1)'
+        self.assertEqual(str(error), told)
+        self.assertEqual(error.url, 'https://as.example/token_url')
         for kind in (KeyboardInterrupt, MemoryError):  # which are no failure of the request
             it, _ = client(kind())
             with self.assertRaises(kind):

@@ -1,13 +1,14 @@
 """Logins: the URL, what is kept, and what comes of the redirect."""
 import base64
 import hashlib
+import json
 import pickle
 import unittest
 import urllib.parse
 
-from case import TOKEN, Case, client
+from case import TOKEN, URLS, Case, Server, client
 import lifecrib
-from lifecrib import Login
+from lifecrib import Client, Login
 
 
 def query(url):
@@ -64,6 +65,67 @@ class Logins(Case):
         for text in ('', '[]', '{}', '{"state":1,"verifier":"v"}', '{"state":"s"}', 'null'):
             with self.assertRaises(ValueError):
                 Login.from_json(text, it)
+
+    def test_what_it_is_bound_to_is_kept(self):
+        it, _ = client(metadata=lifecrib.Metadata('https://as.example'))
+        kept = json.loads(it.login().to_json())
+        self.assertEqual((kept['client_id'], kept['token_url'], kept['redirect_uri'], kept['issuer_compared']),
+                         ('aaa', 'https://as.example/token_url', 'https://app.example/back', 'https://as.example'))
+        announced = lifecrib.Metadata('https://as.example', authorization_response_iss_parameter_supported=True)
+        kept = json.loads(client(metadata=announced)[0].login(redirect='http://127.0.0.1/').to_json())
+        self.assertEqual((kept['redirect_uri'], kept['issuer']), ('http://127.0.0.1/', 'https://as.example'))
+        self.assertNotIn('issuer_compared', kept)
+
+    def test_the_text_of_an_older_version_is_refused(self):
+        it, server = client()
+        kept = json.loads(it.login().to_json())
+        for name in ('client_id', 'token_url', 'redirect_uri'):
+            old = json.dumps({key: value for key, value in kept.items() if key != name})
+            error = self.fails(lifecrib.UnboundLogin, Login.from_json, old, it)
+            self.assertEqual(error.kind, 'unbound_login')
+            self.assertIsInstance(error, ValueError)
+            self.fails(lifecrib.UnboundLogin, pickle.loads, pickle.dumps(Login(None, '', json.loads(old))))
+        self.assertEqual(server.requests, [])
+
+    def test_a_login_of_another_client_sends_nothing(self):
+        login = client()[0].login()
+        for kind, name, settings in ((lifecrib.OtherClient, 'other_client', {'id': 'bbb'}),
+                                     (lifecrib.OtherTokenEndpoint, 'other_token_endpoint',
+                                      {'token_url': 'https://other.example/token_url'}),
+                                     (lifecrib.OtherTokenEndpoint, 'other_token_endpoint', {'token_url': None})):
+            server = Server()
+            known = {'id': 'aaa', **URLS, 'redirect': 'https://app.example/back', 'transport': server, **settings}
+            again = Login.from_json(login.to_json(), Client(**known))
+            error = self.fails(kind, again.finish, back(login))
+            self.assertEqual((error.kind, error.error, error.status), (name, None, None))
+            self.assertIsInstance(error, lifecrib.RefusedRedirect)
+            self.assertEqual(server.requests, [])
+
+    def test_a_redirect_to_another_place_sends_nothing(self):
+        it, server = client(redirect='https://app.example/back?a=1')
+        login = it.login()
+        said = 'code=c&state=' + login.state
+        for place in ('http://app.example/back?a=1&', 'https://other.example/back?a=1&',
+                      'https://app.example:8443/back?a=1&', 'https://app.example/other?a=1&',
+                      'https://app.example/back/?a=1&', 'https://app.example/back?', 'https://app.example/back?a=2&'):
+            error = self.fails(lifecrib.OtherRedirectUri, login.finish, place + said)
+            self.assertEqual((error.kind, error.text), ('other_redirect_uri', 'redirect came to another URI'))
+        self.assertEqual(server.requests, [])
+        server.replies.append((200, TOKEN))
+        self.assertEqual(login.finish('https://app.example/back?%s&a=1' % said).access_token, 't1')
+
+    def test_any_port_of_this_machine(self):
+        """RFC 8252, 7.3: at a loopback address the port is not compared."""
+        it, server = client((200, TOKEN), redirect='http://127.0.0.1/back')
+        login = it.login()
+        self.fails(lifecrib.OtherRedirectUri, login.finish, 'http://localhost:8400/back?code=c&state=' + login.state)
+        login.finish('http://127.0.0.1:8400/back?code=c&state=' + login.state)
+        self.assertIn('redirect_uri=http%3A%2F%2F127.0.0.1%2Fback', server.bodies[0])
+
+    def test_what_a_login_needs(self):
+        self.fails(lifecrib.MissingEndpoint, client(token_url=None)[0].login)
+        with self.assertRaisesRegex(ValueError, 'a login needs a redirect URI'):
+            client(redirect=None)[0].login()
 
     def test_it_is_pickled(self):
         it, _ = client((200, TOKEN))
