@@ -188,11 +188,19 @@ def access_token():
         fault('bad_access_token', 'the token has expired')
     answer(dict(claims, active=True))
 
+def bound(login):
+    uri, called = urllib.parse.urlsplit(login['redirect_uri']), urllib.parse.urlsplit(params['redirect'])
+    if (login['client_id'], login['token_url']) != (client['id'], client['token_url']):
+        fault('other_client', 'login is of another client')
+    if (uri.scheme, uri.netloc, uri.path or '/') != (called.scheme, called.netloc, called.path or '/'):
+        fault('other_redirect_uri', 'redirect came to another URI')
+
 def redirect():
     pairs = urllib.parse.parse_qsl(urllib.parse.urlsplit(params['redirect']).query)
     found, named = dict(pairs), [value for name, value in pairs if name == 'iss']
     if '://' not in params['redirect']:
         bad('params.redirect', 'bad_url')
+    bound(params['login'])
     if found.get('state') != params['state']:
         fault('refused_redirect', 'redirect has another state')
     if 'issuer' in params and named != [params['issuer']] or named and named != [params.get('issuer_compared', params.get('issuer', named[0]))]:

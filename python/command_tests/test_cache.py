@@ -322,6 +322,55 @@ class Cache(stand_in.Case):
         self.assertNotIn('sss', json.dumps(self.kept()))
 
 
+class Unwritable(unittest.TestCase):
+    """A cache that can be read and not written: a token that has not ended is handed out (the tests may be run by root,
+    whom no mode of a file keeps from writing, so the file's own calls fail here)."""
+
+    FAILS = ((mock.patch.object(os, 'access', lambda *_: False), 'the folder of .* can not be written'),
+             (mock.patch.object(token_cache, 'opened', side_effect=OSError(30, 'Read-only file system')), 'Read-only'),
+             (mock.patch.object(token_cache, 'opened', side_effect=OSError(13, 'Permission denied')), 'Permission denied'))
+
+    def setUp(self):
+        self.case = Cache('sign_in')
+        self.case.setUp()
+        self.addCleanup(self.case.doCleanups)
+        self.case.token()
+
+    def test_why_it_is_not_renewed(self):
+        for fails, why in self.FAILS:
+            with self.subTest(why), fails, self.assertRaisesRegex(token_cache.NotAsked, why) as stop:
+                with token_cache.File(self.case.path, 1):
+                    pass
+            self.assertEqual(stop.exception.status, endings.BAD_SETTING)
+
+    def renewed(self, left):
+        """What comes of a token that is good for so many seconds more: its exit status, and what is said and written."""
+        entry = {**self.case.kept(), 'expires_at': int(time.time()) + left}
+        entry.pop('format')
+        cache = mock.Mock(wraps=caches.FileCache(self.case.path, 1))
+        cache.name, cache.renewed.side_effect = self.case.path, token_cache.NotAsked('the folder can not be written', 2)
+        session = mock.Mock(cache=cache, given=mock.Mock(command='token', margin=60, anew=False))
+        with mock.patch.object(kept_tokens, 'tell') as tell, mock.patch.object(kept_tokens, 'write') as write:
+            return kept_tokens.renewed(session, {}, entry), tell.call_args.args[0], write.call_count
+
+    def test_a_token_within_its_margin(self):
+        status, said, written = self.renewed(30)
+        self.assertEqual((status, written), (0, 1))
+        self.assertRegex(said, r'is good for (30|29) more seconds, but not renewed: the folder can not be written$')
+
+    def test_a_token_that_has_ended(self):
+        with self.assertRaisesRegex(token_cache.NotAsked, 'the folder can not be written'):
+            self.renewed(-1)
+
+    def test_a_url_of_the_cache_is_called_so(self):
+        self.case.change(expires_at=1)
+        self.case.server.reply = (503, {}, '')
+        self.assertEqual(self.case.token(OAUTH2_TOKEN_URL='')[0], 9)
+        self.assertIn('%s/token (kept in %s)' % (self.case.server.url, self.case.path), self.case.err)
+        self.assertEqual(self.case.token()[0], 9)
+        self.assertIn('/token (--token-url)', self.case.err)
+
+
 class Whole(unittest.TestCase):
     """A file that can't be written is as it was."""
 

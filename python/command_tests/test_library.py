@@ -37,7 +37,8 @@ class InProcess(Case):
         status, out, err = self.run_tool('token')
         self.assertEqual((status, out), (15, ''))
         self.assertEqual(err,
-                         UNPROVED + 'tools/oauth2: Server returned error response: invalid_scope (HTTP status 400)\n')
+                         UNPROVED + 'tools/oauth2: %s/token (--token-url): Server returned error response: invalid_scope '
+                         '(HTTP status 400)\n' % self.server.url)
 
     def test_a_setting_that_it_refuses_is_named(self):
         status, _, err = self.run_tool('token', '--client-id', 'bad')

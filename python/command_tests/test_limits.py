@@ -39,7 +39,7 @@ class InTime(unittest.TestCase):
         request = Request('POST', 'https://as.invalid/token', (), b'')
         with mock.patch.object(socket, 'getaddrinfo', lambda *_: time.sleep(20)):
             begun = time.monotonic()
-            reply, note, may_retry = http_requests.reply_to(request, 0.3)
+            reply, note, may_retry, _ = http_requests.reply_to(request, 0.3)
         self.assertLess(time.monotonic() - begun, 15)
         self.assertEqual((reply, may_retry), ({'fail': True}, True))
         self.assertIn('no whole reply within 0.3 seconds (--timeout)', note)

@@ -121,6 +121,18 @@ class Profiles(Case):
                 self.assertEqual(self.ids()[-1], client)
         self.assertEqual(sorted(os.listdir(self.tokens)), ['a.token', 'b.token', 'c.token'])
 
+    def test_a_default_profile_says_where_it_took_part_in_a_fault(self):
+        path = self.profiles('default_profile = "a"\n[profile.a]\nclient_id = "a"\n[profile.b]\nclient_id = "b"\n')
+        self.server.reply = (400, {}, {'error': 'invalid_client'})
+        said = 'the profile "a" took part, as default_profile of %s; --no-profile leaves it out\n' % path
+        words = ['token', '--token-url', self.server.url + '/token', '--anew']
+        for more, env, is_said in (([], {}, True), (['--profile', 'a'], {}, False), ([], {'OAUTH2_PROFILE': 'a'}, False),
+                                   (['--quiet'], {}, False)):
+            status, _, err = self.run_tool(*words, *more, **env)
+            self.assertEqual((status, said in err), (11, is_said), err)
+        self.server.reply = OK
+        self.assertNotIn('took part', self.run_tool(*words)[2])
+
     def test_another_place_of_the_file(self):
         self.profiles('[profile.x]\n' + WORK % self.server.url, self.room + '/config/lifecrib/config.toml')
         self.assertEqual(self.run_tool('token', '--profile', 'x', XDG_CONFIG_HOME=self.room + '/config')[0], 0)

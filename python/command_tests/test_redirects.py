@@ -34,6 +34,9 @@ SETTINGS = {'OAUTH2_CLIENT_ID': 'aaa', 'OAUTH2_AUTH_URL': 'https://as.example/au
             'OAUTH2_REDIRECT': 'https://app.example/cb'}
 
 
+BOUND = {'client_id': 'aaa', 'token_url': 'https://as.example/token', 'redirect_uri': 'https://app.example/cb'}
+
+
 class Login(unittest.TestCase):
     def login(self, event, status, *flags, redirect=BACK, **env):
         """A login where the run of the redirect has this event and status: how it ended, and the scripts that were
@@ -57,7 +60,7 @@ class Login(unittest.TestCase):
         run, (asked, back, exchange) = self.login({**CODE, 'answer': 'a"b'}, 0)
         self.assertEqual((run.returncode, run.stdout), (0, '{"access_token":"t"}\n'))
         self.assertEqual(back['command'], 'redirect')
-        self.assertEqual(back['params'], {'state': asked['params']['state'], 'redirect': BACK})
+        self.assertEqual(back['params'], {'state': asked['params']['state'], 'redirect': BACK, 'login': BOUND})
         self.assertEqual(exchange['params'], {'code': 'a"b', 'verifier': asked['params']['verifier']})
 
     def test_an_issuer_is_expected_where_one_is_set(self):
@@ -83,6 +86,13 @@ class Login(unittest.TestCase):
             self.assertEqual((run.returncode, run.stdout), (status, ''))
             self.assertIn(said, run.stderr)
             self.assertEqual([it['command'] for it in scripts], ['authorize', 'redirect'])
+
+    def test_a_redirect_to_another_place_ends_the_login(self):
+        event = {'event': 'fault', 'kind': 'other_redirect_uri', 'text': 'x', 'error': None, 'unread': None}
+        run, scripts = self.login(event, 1, redirect='https://other.example/cb?code=c&state={}')
+        self.assertEqual((run.returncode, run.stdout), (1, ''))
+        self.assertIn('is not at the redirect URI of this login, https://app.example/cb: do not use it', run.stderr)
+        self.assertEqual([it['command'] for it in scripts], ['authorize', 'redirect'])
 
     def test_a_redirect_without_its_state_is_told_as_that(self):
         for redirect in ('https://app.example/cb?code=c', 'https://app.example/cb?code=c#state=s'):

@@ -232,7 +232,7 @@ class Renewals(Case):
         for reply, ends, wanted, said in (((401, {}, {'error': 'invalid_client'}), 0, 11, 'invalid_client'),
                                           ((400, {}, {'error': 'invalid_grant'}), 0, 5, 'sign in anew'),
                                           ((400, {}, {'error': 'invalid_grant'}), 30, 0,
-                                           'not renewed: Server returned')):
+                                           '(--token-url): Server returned')):
             self.change(expires_at=int(time.time()) + ends)
             self.server.reply = reply
             self.assertEqual(self.token()[0], wanted)

@@ -160,7 +160,7 @@ class Late(Case):
         request = Request('POST', self.env['OAUTH2_TOKEN_URL'], (), b'refresh_token=1.0')
         self.addCleanup(setattr, signals.hold, 'why', None)
         with mock.patch.object(renewal, 'AT_LEAST', 0.5):
-            reply, note, may_retry = http_requests.reply_to(request, 0.1, renewal.Renewal(None))
+            reply, note, may_retry, _ = http_requests.reply_to(request, 0.1, renewal.Renewal(None))
         self.assertEqual((reply, may_retry), ({'fail': True}, True))
         self.assertIn('no whole reply within 0.5 seconds', note)
 
@@ -234,9 +234,12 @@ class Full(Case):
     def test_a_read_only_folder(self):
         subprocess.run(['mount', '-o', 'remount,ro', self.small], check=True)
         status, out, err = self.token(self.path)
-        self.assertEqual((status, out, self.server.asked), (2, '', []))
-        self.assertIn('Read-only file system', err)
+        self.assertEqual((status, out, self.server.asked), (0, 'old', []))  # it is good yet
+        self.assertRegex(err, 'good for .* seconds, but not renewed: .* can not be used as a cache: Read-only file system')
         self.assertEqual(self.token(self.path, '--margin', '0')[:2], (0, 'old'))
+        status, out, err = self.run_tool('refresh', '--cache', self.path)
+        self.assertEqual((status, out), (2, ''))
+        self.assertIn('Read-only file system', err)
 
 
 class Rescued(Case):

@@ -46,15 +46,22 @@ class Statuses(stand_in.Case):
     def test_faults(self):
         for reply, status, said in (
                 ((401, {}, {'error': 'invalid_client'}), 11,
-                 'Server returned error response: invalid_client (HTTP status 401); no secret was sent: '
-                 'OAUTH2_CLIENT_SECRET'),
+                 '/token (--token-url): Server returned error response: invalid_client (HTTP status 401); no secret was '
+                 'sent: OAUTH2_CLIENT_SECRET'),
                 ((400, {}, {'error': 'odd: invalid_client'}), 1, 'odd'),
                 ((400, {}, {'error': 'invalid_grant', 'error_uri': 'u', 'trace': [1]}), 12,
                  'invalid_grant (HTTP status 400); the reply also has {"trace":[1]}\n'),
                 ((500, {'Content-Type': 'text/html'}, '<p>'), 9,
                  '/token (--token-url): the reply (HTTP status 500) is text/html and not a JSON object; is the URL'),
                 ((200, {'Content-Type': 'text/html'}, '<p>'), 1, 'the reply (HTTP status 200) is text/html and not'),
-                ((200, {}, ''), 1, 'empty response body (HTTP status 200)'),
+                ((200, {}, ''), 1, '/token (--token-url): server returned empty response body (HTTP status 200)\n'),
+                ((403, {}, ''), 1, "server returned empty error response (HTTP status 403); the server does not say why: "
+                 "are the client's name and secret right"),
+                ((401, {}, ' '), 1, "(HTTP status 401)"),
+                ((429, {'Retry-After': '30'}, ''), 9, 'empty error response (HTTP status 429; Retry-After: 30)\n'),
+                ((503, {'Retry-After': 'Fri, 31 Dec 1999 23:59:59 GMT'}, {'error': 'temporarily_unavailable'}), 19,
+                 'temporarily_unavailable (HTTP status 503; Retry-After: Fri, 31 Dec 1999 23:59:59 GMT)\n'),
+                ((400, {'Retry-After': '30'}, {'error': 'invalid_scope'}), 15, 'invalid_scope (HTTP status 400)\n'),
                 ((200, {}, '{"access_token": "t'), 1, 'is application/json and not a JSON object, or it is cut off'),
                 ((302, {'Location': 'https://x.example/y?z=1'}, ''), 1,
                  'the server sends elsewhere to https://x.example/y (HTTP status 302), which is not followed')):
@@ -94,14 +101,16 @@ class Program(unittest.TestCase):
             with mock.patch.object(program, 'path_of', {name: sys.executable}.get):
                 self.assertEqual(self.found(True, None, name=name), (sys.executable, []))
 
-    def test_one_that_is_not_proved_is_told_once(self):
-        for name, prove in (program.NAME, 'tools/prove '), (program.KEEPER,
-                                                            'tools/prove oauth2_shared_keeper_program '):
-            for unproved in (lambda note, _: note() or '/p'), (lambda note, _: '/p'):
-                path, said = self.found(False, unproved, name=name)
-                self.assertEqual((path, len(said)), ('/p', 1))
-                self.assertIn('not proved', said[0])
-                self.assertIn(prove, said[0])
+    def test_one_that_is_not_proved_is_told_once_a_checkout(self):
+        for name, prove in (program.NAME, 'tools/prove'), (program.KEEPER, 'tools/prove oauth2_shared_keeper_program'):
+            path, said = self.found(False, lambda note, *_: note() or '/p', name=name)
+            self.assertEqual((path, len(said)), ('/p', 1))
+            self.assertIn('not proved, %s does that' % prove, said[0])
+            self.assertEqual(self.found(False, lambda *_: '/p', name=name), ('/p', []))  # it is there by now
+
+    def test_one_that_waits_for_another_run_says_so(self):
+        path, said = self.found(False, lambda _note, _name, wait: wait() or '/p')
+        self.assertEqual((path, said), ('/p', ['another run compiles the program now; this one waits for it']))
 
     def test_a_proved_build_that_was_carried_here(self):
         with tempfile.TemporaryDirectory() as room:
@@ -112,7 +121,7 @@ class Program(unittest.TestCase):
                 with self.assertRaisesRegex(endings.Stop, 'can not be run: chmod'):
                     self.found(True, None)
                 with self.assertRaisesRegex(endings.Stop, 'does not fit this checkout .*, and no kit to compile it'):
-                    self.found(False, lambda note, _: note(), has_kit=False)
+                    self.found(False, lambda note, *_: note(), has_kit=False)
 
     def test_the_library_of_this_checkout_is_taken_if_it_is_of_these_sources(self):
         library = _library.Library(_library.LIBRARY, lambda _: (0, b''))
@@ -126,7 +135,7 @@ class Program(unittest.TestCase):
         def broken(*_):
             raise RuntimeError('src/main.rt: no')
         with mock.patch.object(program, 'kept_of', lambda _: '/none/oauth2_run.proved'):
-            for unproved, has_kit, said in ((lambda note, _: note(), False,
+            for unproved, has_kit, said in ((lambda note, *_: note(), False,
                                              'there is no program here, and no kit to compile it'),
                                             (broken, True, 'src/main.rt: no')):
                 with self.assertRaisesRegex(endings.Stop, said):
@@ -427,11 +436,24 @@ class Devices(stand_in.Case):
                                            'gave up: no answer within 2 seconds (--give-up)'),
                                           (['--max-polls', '1'], pending, 1, 'gave up after 1 request (--max-polls)'),
                                           ([], 'expired_token', 20,
-                                           'Server returned error response: expired_token (HTTP status 400)')):
+                                           '%s/token (--token-url): Server returned error response: expired_token '
+                                           '(HTTP status 400)' % self.server.url)):
             self.server.reply = lambda asked: (400, {}, {'error': code}) if 'device_code' in asked else codes
             found = self.run_tool('device', *words)
             self.assertEqual(found[:2], (status, ''))
             self.assertTrue(found[2].endswith('tools/oauth2: %s\n' % said), found[2])
+
+
+    def test_without_a_terminal_one_line_tells_of_the_polls(self):
+        codes = {'device_code': 'd', 'user_code': 'U-1', 'verification_uri': 'https://as.example/d', 'expires_in': 600,
+                 'interval': 0}
+        pending = (400, {}, {'error': 'authorization_pending'})
+        self.server.reply = lambda asked: codes if 'device_code' not in asked else \
+            pending if len(self.server.asked) < 5 else OK
+        status, out, err = self.run_tool('device', '--output', 'token')
+        self.assertEqual((status, out), (0, 't1\n'))
+        self.assertEqual(err.splitlines()[2:], ['tools/oauth2: waiting for the user, for 600 seconds at most'])
+        self.assertEqual(len(self.server.asked), 5)
 
 
 class Streams(stand_in.Case):

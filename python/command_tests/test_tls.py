@@ -47,7 +47,7 @@ class Servers(Case):
                      'other')
         status, _, err = self.token(self.serve(self.path), '--cacert', self.room + '/other', SSL_CERT_FILE=self.path)
         self.assertEqual(status, 1)
-        self.assertIn("the server's certificate is not one that is trusted here (--cacert names others)", err)
+        self.assertIn("the server's certificate is not one that is trusted here (those of --cacert are)", err)
 
     def test_files_that_can_not_be_used(self):
         empty = self.file('empty', '')

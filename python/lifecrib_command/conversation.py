@@ -11,7 +11,7 @@ from lifecrib._calls import request_of
 
 from . import endings, programs
 from .endings import BAD_SETTING, NO_MEMORY, Stop, status_of
-from .http_requests import FAILED, RETRIED, Reply, reply_to
+from .http_requests import FAILED, RETRIED, Reply, reply_to, status_text
 from .renewal import Renewal
 
 Script = Mapping[str, Any]
@@ -28,7 +28,7 @@ class Outcome(NamedTuple):
 
     reply is the last one as the script has it, url where its request went, and asked_at when. note says what the run
     does not know of it: why there is no reply, or where that sends to. may_retry is whether another try may have
-    another result.
+    another result, and later when, as the server says.
     """
 
     run: Run
@@ -37,6 +37,7 @@ class Outcome(NamedTuple):
     asked_at: int = 0
     note: Optional[str] = None
     may_retry: bool = False
+    later: Optional[str] = None
 
     @property
     def fault(self) -> Optional[Fault]:
@@ -171,7 +172,8 @@ class Conversation:
                 self.script['readings'].append(int(time.time()))
             else:
                 last = self.script['replies'][-1] if self.script['replies'] else None
-                return Outcome(run, last, self.url, self.asked_at, self.got.note, self.got.may_retry)
+                got = self.got
+                return Outcome(run, last, self.url, self.asked_at, got.note, got.may_retry, got.later)
 
     def tell(self) -> None:
         """Says what is to be known of the last reply, since others follow."""
@@ -209,7 +211,7 @@ def of_poll(request: Request, got: Reply) -> Reply:
     status: int = (got.reply or {}).get('status', 0)
     if status not in RETRIED:
         return got
-    return Reply(FAILED, '%s %s: HTTP status %d' % (request.method, request.url, status), True)
+    return Reply(FAILED, '%s %s: %s' % (request.method, request.url, status_text(status, got.later)), True)
 
 
 def answered(script: Script, limit: float, renewal: Optional[Renewal] = None, sleep: Callable[[float], None] = sleep,

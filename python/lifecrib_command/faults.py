@@ -8,6 +8,7 @@ from typing import Any, Mapping, Optional
 from . import answers, endings
 from .conversation import Fault, Outcome, status_of_fault
 from .endings import FAULT, TRY_AGAIN
+from .http_requests import status_text
 
 OF_AN_ERROR = ('error', 'error_description', 'error_uri')  # what the text of an error response has
 NO_OBJECT = ('NotJson', 'NotObject')  # the causes of a body that has no JSON object
@@ -16,6 +17,9 @@ NO_SECRET = ('no secret was sent: OAUTH2_CLIENT_SECRET, --client-secret-file or 
              '--client-assertion-file an '
              'assertion')
 IS_URL = 'is the URL that of the endpoint?'
+OTHER = 'Other error: '  # begins the text of each fault that has no kind of its own, and says nothing to a user
+NO_CREDENTIALS = (401, 403)
+WRONG_CREDENTIALS = "the server does not say why: are the client's name and secret right, and a user's password?"
 
 
 def error_in(outcome: Outcome) -> Any:
@@ -36,11 +40,16 @@ def is_of_type(fault: Fault, reply: Mapping[str, Any]) -> bool:
     return bool(fault['kind'] == 'other_error' and reply['body'] and reply.get('content_type'))
 
 
+def is_silent_refusal(reply: Mapping[str, Any]) -> bool:
+    """Whether a server refuses who asks, and does not say why."""
+    return reply['status'] in NO_CREDENTIALS and not reply['body'].strip()
+
+
 def text_of(fault: Fault) -> str:
     """What the library says of a fault, and of a body that can't be read where and why."""
-    unread = fault['unread']
-    return '%s %s %s' % (fault['text'], json.dumps(unread['member'], ensure_ascii=False),
-                         unread['cause']) if unread else str(fault['text'])
+    unread, text = fault['unread'], str(fault['text'])
+    text = text[len(OTHER):] if text.startswith(OTHER) else text
+    return '%s %s %s' % (text, json.dumps(unread['member'], ensure_ascii=False), unread['cause']) if unread else text
 
 
 def of(outcome: Outcome, where: str = '', hint: str = IS_URL, has_secret: bool = True) -> tuple[str, int]:
@@ -58,9 +67,9 @@ def of(outcome: Outcome, where: str = '', hint: str = IS_URL, has_secret: bool =
     if is_of_type(fault, reply) or fault['unread'] and fault['unread']['cause'] in NO_OBJECT:
         said = '%s: %s' % (at, no_object(reply))
         return '%s; %s' % (said, hint) if hint else said, status
-    said = '%s (HTTP status %d)' % (text_of(fault), reply['status'])
+    said = '%s: %s (%s)' % (at, text_of(fault), status_text(reply['status'], outcome.later))
     if fault['kind'] != 'error_response':
-        return '%s: %s' % (at, said), status
+        return said + ('; ' + WRONG_CREDENTIALS if is_silent_refusal(reply) else ''), status
     more = answers.others(reply['body'], OF_AN_ERROR)
     if more:
         said += '; the reply also has ' + answers.object_of(more)

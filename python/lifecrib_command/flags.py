@@ -104,7 +104,16 @@ ABOUT = {
                        'server has refused (erase) is renewed at the next use.',
                        "git config --global credential.https://git.example.helper \\\n"
                        "    '!tools/oauth2 git-credential --profile work --host git.example'"),
+    'demo': ('gets tokens from a small server on this machine, and shows how',
+             'Starts an authorization server at a free port of 127.0.0.1, with one client, and runs other commands '
+             'with it: client\n'
+             'credentials, a login whose browser is played, the kept token, its renewal, and a sign-in on a device. '
+             'Standard error\n'
+             'has each command with its requests and replies, and standard output a line with each token. It ends by '
+             'itself.',
+             'tools/oauth2 demo'),
 }
+ALONE = ('demo',)  # the commands that take no settings
 
 
 def pair_of(text: str) -> list[str]:
@@ -340,6 +349,9 @@ def looks_of(name: str) -> dict[str, Any]:
 
 def add_flags(it: argparse.ArgumentParser, name: str) -> None:
     """Adds the flags of a command to its parser."""
+    if name in ALONE:
+        it.set_defaults(quiet=False, of_profile=None)
+        return
     add_for_all(it, name)
     if name == 'status':
         add_for_replies(it)
@@ -395,6 +407,8 @@ def arguments(words: Sequence[str], doc: str) -> argparse.Namespace:
     parser, given, unknown = parsed(words, doc)
     check_known(parser, unknown)
     endings.quiet = given.quiet
+    if given.command in ALONE:
+        return given
     profiles.apply(given)
     check_flags(parser, given)
     return given

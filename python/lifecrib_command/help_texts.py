@@ -15,6 +15,7 @@
     whoami          asks the UserInfo endpoint about the user who has signed in (OpenID Connect Core 1.0, 5.3)
     logout          revokes the kept token, and removes the file
     git-credential  gives git the kept token as a password (gitcredentials(7))
+    demo            gets tokens from a small server on this machine, and shows each request and reply
 
 tools/oauth2 COMMAND --help has an example of each, and docs/TOOL.md says more.
 
@@ -58,8 +59,8 @@ kept.
 
 Scripts are run by the program that OAUTH2_PROGRAM names, else in this process by the library of the package lifecrib,
 or that which LIFECRIB_LIBRARY names. In a checkout without a library it is the program that tools/prove or
-`tools/test --proved` has built; if there is none, it is compiled without proofs, which takes about a minute, once for
-a checkout. A line on standard error says if what runs is not proved.
+`tools/test --proved` has built; if there is none, it is compiled without proofs, which takes two to three minutes,
+once for a checkout. A line on standard error says if what runs is not proved.
 
 Standard output has the answer as one line: the whole reply as JSON, or as --output says; of revoke, null. status and
 git-credential write several lines, and logout none. All else goes to standard error, where an error is one line.

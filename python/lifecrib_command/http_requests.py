@@ -22,6 +22,7 @@ from .time_limits import in_time
 MOST_BYTES = 1 << 20  # of a reply's body
 PORTS = {'http': 80, 'https': 443}  # where a URL has none
 RETRIED = (429, *range(500, 600))  # the HTTP statuses of a server that another try may find better
+LONGEST_DATE = 40  # characters of a Retry-After that are shown
 FAILED: Mapping[str, Any] = {'fail': True}  # a request without a reply, as a script has it
 NOT_TAKEN = "the server does not take the client's certificate (--client-cert)"
 # What a server says about the client's certificate, by the names of OpenSSL for the alerts of TLS (RFC 8446, 6.2).
@@ -43,12 +44,13 @@ class Unanswered(Exception):
 
 
 class Reply(NamedTuple):
-    """What the script says of a request, its reply or that it failed; what the user should know of that; and whether
-    another try may have another result, as where the network was at fault."""
+    """What the script says of a request, its reply or that it failed; what the user should know of that; whether
+    another try may have another result, as where the network was at fault; and when, by the server's Retry-After."""
 
     reply: Optional[Mapping[str, Any]]
     note: Optional[str] = None
     may_retry: bool = False
+    later: Optional[str] = None
 
 
 def get(url: str, authorization: Optional[str] = None) -> Request:
@@ -81,8 +83,9 @@ def why_of(error: Exception) -> str:
 
 def why_no_tls(error: ssl.SSLError) -> str:
     if isinstance(error, ssl.SSLCertVerificationError):
-        return ("the server's certificate is not one that is trusted here (--cacert names others): %s"
-                % error.verify_message)
+        others = 'those of --cacert are' if tls.cacert else '--cacert names others'
+        return ("the server's certificate is not one that is trusted here (%s): %s"
+                % (others, error.verify_message))
     if error.reason in NO_CERTIFICATE:
         return NO_CERTIFICATE[error.reason]
     if isinstance(error, ssl.SSLEOFError):
@@ -220,7 +223,13 @@ def in_script(method: str, status: int, headers: http.client.HTTPMessage, body: 
         raise Unanswered('the reply has HTTP status %d and a body that is not UTF-8' % status)
     if content_type is not None:
         reply['content_type'] = content_type
-    return Reply(reply, elsewhere(method, status, location), status in RETRIED)
+    later = headers.get('Retry-After') if status in RETRIED else None
+    return Reply(reply, elsewhere(method, status, location), status in RETRIED, later)
+
+
+def status_text(status: int, later: Optional[str]) -> str:
+    """What is said of a reply's status, and of its Retry-After (RFC 9110, 10.2.3), as far as one is long."""
+    return 'HTTP status %d%s' % (status, '; Retry-After: ' + later[:LONGEST_DATE] if later else '')
 
 
 def elsewhere(method: str, status: int, location: Optional[str]) -> Optional[str]:

@@ -22,6 +22,7 @@ OTHER_STATE = 'the redirect URL has not the state of this login: do not use it, 
 OTHER_ISSUER = 'the redirect URL does not name the issuer (--issuer) once: do not use it, and begin anew'
 NO_ISSUER = OTHER_ISSUER + ('; or, if this server never sends "iss", leave --issuer out (with --openid: give '
                             '--id-token-issuer)')
+OTHER_URI = 'the redirect URL is not at the redirect URI of this login, %s: do not use it, and begin anew'
 NO_CODE = 'the redirect URL has no code, or several: paste the whole address that the browser was sent to'
 
 
@@ -53,10 +54,13 @@ def values_in(redirect: str, name: str) -> list[str]:
 
 
 class Back:
-    """How a user comes back from a login: with its state, and from its issuer where one is set (RFC 9207)."""
+    """How a user comes back from a login: to its redirect URI, with its state, and from its issuer where one is set
+    (RFC 9700, 2.1; RFC 9207)."""
 
     def __init__(self, session: Session, state: str) -> None:
         self.session, self.state = session, state
+        found = session.client('login')
+        self.login = {'client_id': found['id'], 'token_url': found['token_url'], 'redirect_uri': found['redirect']}
 
     def is_ours(self, redirect: str) -> bool:
         """Whether a redirect is of this login, or of another one, for which a listener does not end."""
@@ -65,10 +69,11 @@ class Back:
 
     def params(self, redirect: str) -> Params:
         issuer = self.session.settings['issuer']
+        params = {'state': self.state, 'redirect': redirect, 'login': self.login}
         if not issuer:
-            return {'state': self.state, 'redirect': redirect}
+            return params
         needs = 'issuer' if discovery.must_name_issuer(self.session.metadata) else 'issuer_compared'
-        return {'state': self.state, 'redirect': redirect, needs: issuer}
+        return {**params, needs: issuer}
 
     def code(self, redirect: str) -> str:
         """The code that a redirect brings, as the library reads it. Stops where it does not take the redirect."""
@@ -89,6 +94,8 @@ class Back:
         """Why a redirect that the library has refused brings no code."""
         if fault['error']:
             return Stop('the server answers: ' + fault['text'], status_of_fault(fault))
+        if fault['kind'] == 'other_redirect_uri':
+            return Stop(OTHER_URI % self.login['redirect_uri'], FAULT)
         if fault['kind'] != 'refused_redirect':
             return Stop(fault['text'], status_of_fault(fault))
         if not self.is_ours(redirect):

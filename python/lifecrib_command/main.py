@@ -5,7 +5,7 @@ import os
 import sys
 
 from . import answers, caches, endings, flags, help_texts, kept_tokens, renewal, signals, wire_log
-from .endings import NOT_KEPT, Stop, tell
+from .endings import NOT_KEPT, Stop, note, tell
 from .profiles import make_folder
 from .session import Session
 from .settings import check_complete, settings_of
@@ -42,6 +42,9 @@ def renewal_of(given: argparse.Namespace, cache: Optional[Cache]) -> renewal.Ren
 
 def answer(given: argparse.Namespace) -> int:
     """Runs a command: its exit status, once its answer is written."""
+    if given.command == 'demo':
+        from . import demo
+        return demo.run()
     cache = cache_of(given)
     if given.command == 'status' and cache:
         from . import uses
@@ -108,14 +111,19 @@ def fill_streams() -> None:
 
 
 def main() -> int:
-    said = None
+    said: Optional[str] = None
+    given: Optional[argparse.Namespace] = None
     try:
         fill_streams()
         signals.watch()
-        status = answer(flags.arguments(sys.argv[1:], help_texts.__doc__ or ''))
+        given = flags.arguments(sys.argv[1:], help_texts.__doc__ or '')
+        status = answer(given)
     except Stop as stop:
         said, status = str(stop), stop.status
     signals.let_end()
     if said is not None:
         tell(said)
+    if status and given and given.of_profile and given.of_profile.is_default:
+        note('the profile "%s" took part, as default_profile of %s; --no-profile leaves it out'
+             % (given.of_profile.name, given.of_profile.path))
     return status

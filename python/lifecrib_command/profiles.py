@@ -32,8 +32,9 @@ KEEPS = (*SIGNS_IN, 'refresh', 'status', 'logout', 'whoami', 'git-credential')
 class Profile:
     """A profile: its name, its members, and the file that has it."""
 
-    def __init__(self, name: str, members: dict[str, Any], path: str) -> None:
+    def __init__(self, name: str, members: dict[str, Any], path: str, is_default: bool) -> None:
         self.name, self.members, self.path = name, members, path
+        self.is_default = is_default  # nothing named it but the file
 
     def token_file(self) -> str:
         return os.path.join(place('XDG_STATE_HOME', '.local/state'), self.name + '.token')
@@ -75,7 +76,7 @@ def profile_of(path: str, name: Optional[str], is_needed: bool = False) -> Optio
     """The profile of this name in a file, or its default one."""
     from . import profile_files
     default, found = profile_files.profiles_in(path)
-    name = name or default
+    is_default, name = not name, name or default
     if name is None and is_needed:
         raise Stop('%s has no default_profile: give --profile' % path, BAD_SETTING)
     if name is None:
@@ -83,7 +84,7 @@ def profile_of(path: str, name: Optional[str], is_needed: bool = False) -> Optio
     if name not in found:
         raise Stop('%s has no profile "%s": it has %s' % (path, name, ', '.join(found) or 'none'),
                    BAD_SETTING)
-    return Profile(name, found[name], path)
+    return Profile(name, found[name], path, is_default)
 
 
 def apply(given: argparse.Namespace) -> None:

@@ -5,7 +5,7 @@ import functools
 
 from . import wire_log
 from .endings import Stop
-from .settings import ENDPOINTS, NEEDED, OF_TLS, URLS, asked, flag_of
+from .settings import ENDPOINTS, NEEDED, OF_CACHE, OF_TLS, URLS, asked, flag_of
 
 TYPE_CHECKING = False
 if TYPE_CHECKING:  # typing takes a while to load
@@ -76,10 +76,12 @@ class Session:
         return {name: value for name, value in found.items() if value}
 
     def where(self, url: Optional[str]) -> str:
-        """Which setting has a URL, in brackets."""
+        """Which setting has a URL, or that the cache keeps it, in brackets."""
         name = next((it for it in ENDPOINTS if url and self.settings[it] == url), None)
         if not name:
             return ''
+        if name in self.settings[OF_CACHE]:
+            return ' (kept in %s)' % self.cache.name
         is_discovered = self.metadata and self.metadata.get(ENDPOINTS[name]) == url
         return ' (%s)' % ('--issuer' if is_discovered else flag_of(name))
 

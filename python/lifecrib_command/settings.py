@@ -44,6 +44,7 @@ FILES = {'cacert': 'a file with the certificates of the authorities that are tru
          'client_key': 'the file with the key of that certificate, if it is another one',
          'client_assertion_file':
          'a file with a JWT that stands for the client in place of a secret; it is read anew for each request'}
+OF_CACHE = 'of_cache'  # which settings the cache gave, since nothing else did
 OF_TLS = ('cacert', 'client_cert', 'client_key')
 NEEDED = {'login': ('auth_url', 'token_url', 'redirect'), 'token': ('token_url',),
           'password': ('token_url', 'username'),
@@ -106,9 +107,11 @@ def settings_of(given: argparse.Namespace, kept: Mapping[str, Any]) -> Settings:
         if '\0' in (found[name] or ''):
             raise Stop('%s: "%s" has the character U+0000, which no setting can have' % (path, name), BAD_SETTING)
     own = {name for name in TEXTS if found[name]}
+    found[OF_CACHE] = set()
     for name in kept.keys() & TEXTS.keys():
-        if name not in ENDPOINTS or found['issuer'] in (None, kept['issuer']):
-            found[name] = found[name] or kept[name]
+        if not found[name] and (name not in ENDPOINTS or found['issuer'] in (None, kept['issuer'])):
+            found[name] = kept[name]
+            found[OF_CACHE].add(name)
     servers.fill(found)
     found['scopes'] = getattr(given, 'scope', None) or scopes_of_environment() or found.get('scopes') or []
     if not isinstance(found['scopes'], list) or not all(isinstance(it, str) for it in found['scopes']):

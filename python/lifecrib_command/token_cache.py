@@ -76,15 +76,15 @@ def opened(path: str, flags: int) -> tuple[IO[str], os.stat_result]:
 
 
 @contextlib.contextmanager
-def told(path: str) -> Iterator[None]:
-    """Stops where a file can't be read, or is no text."""
+def told(path: str, kind: type[Stop] = Stop) -> Iterator[None]:
+    """Stops, by this kind, where a file can't be opened; or where it is no text."""
     try:
         yield
     except UnicodeDecodeError:
         raise Stop('%s is no cache of this tool, so it is left as it is: name another file by --cache' % path,
                    BAD_SETTING)
     except OSError as error:
-        raise Stop('%s can not be used as a cache: %s' % (path, error.strerror), status_at(error))
+        raise kind('%s can not be used as a cache: %s' % (path, error.strerror), status_at(error))
 
 
 def read(path: str) -> Optional[Entry]:
@@ -115,7 +115,7 @@ class File:
         import time
         end = time.monotonic() + self.limit
         try:
-            with told(self.path):
+            with told(self.path, NotAsked):  # a token that is good yet needs no file that can be written
                 while not self.file:
                     self.file = self.locked(end)
                 self.entry = entry_in(self.file.read(), self.path)
@@ -130,7 +130,7 @@ class File:
         with contextlib.ExitStack() as stack:
             stack.callback(file.close)
             if not os.access(os.path.dirname(self.path), os.W_OK):
-                raise Stop('the folder of %s can not be written' % self.path, BAD_SETTING)
+                raise NotAsked('the folder of %s can not be written' % self.path, BAD_SETTING)
             self.lock(file, end)
             if os.path.exists(self.path) and os.path.samestat(os.stat(self.path), found):
                 stack.pop_all()
