@@ -90,6 +90,11 @@ CLASSES = [
     Class('algorithm', '3.1.3.7, 6 to 8', "the algorithm is a matter of Authlib's signature check, not of its claims checks",
           said('the token has no signature', 'the algorithm is not the registered one')),
     Class('crit', 'RFC 7515, 4.1.11', "so is the header's crit", said('the header has an extension that has to be understood')),
+    Class('kind', 'RFC 8725, 3.11; RFC 7797, 7', "so are the header's typ and b64",
+          said('the type is not that of an ID token', 'the payload is not encoded')),
+    Class('key identifier', 'RFC 7515, 4.1.4', 'and so is a kid of another type', said('header: kid: of the wrong type')),
+    Class('no subject', '2, sub', 'Authlib takes an empty subject', said('the subject is empty')),
+    Class('login in the future', '2, auth_time', 'Authlib compares auth_time with nothing', said('the user logged in in the future')),
     Class('type', '2', 'Authlib looks at the types of exp, iat and auth_time alone, and at that of amr in part', is_type),
     Class('unneeded claim', '2', 'Authlib refuses an auth_time that is no number and an amr that is no list, which no rule needs',
           lambda it: it.ours is None and it.theirs in refused_for('auth_time') + refused_for('amr')),
@@ -117,8 +122,9 @@ CLASSES = [
     Class('hash of another algorithm', '3.1.3.8', 'Authlib cuts the name of a digest from that of any algorithm', is_unknown_hash),
     Class('hash by EdDSA', '3.1.3.6', 'Authlib knows no hash of EdDSA, so it compares none',
           lambda it: said('the hash is that of another access token')(it) and it.header['alg'] == 'EdDSA'),
-    Class('nbf', 'RFC 7519, 4.1.5', 'Authlib judges nbf, which OpenID Connect Core 1.0 does not have in an ID token',
-          lambda it: it.ours is None and 'nbf' in it.claims and (it.theirs in refused_for('nbf') or it.theirs.startswith('invalid_token')))]
+    Class('nbf', 'RFC 7519, 4.1.5', 'Authlib takes null for no time, other values for one, and reads a time without its fraction',
+          lambda it: 'nbf' in it.claims and (it.ours is None and (it.theirs in refused_for('nbf') or it.theirs.startswith('invalid_token'))
+                                             or said('the token is not valid yet')(it)))]
 
 
 def class_of(it):

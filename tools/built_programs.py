@@ -7,17 +7,19 @@ import repository
 
 sys.path.append(repository.PYTHON)
 import c_library
+import carried
 import program
 import version
 from lifecrib_command import endings, programs, signals
 from lifecrib_command.endings import Stop
 
 program.undone = signals.undone  # a signal may end a tool at any moment
+program.tell_seconds = lambda seconds: endings.note('it is still compiled, for %d seconds by now' % seconds)
 
 
 def path_of(name=program.NAME, by=None):
-    """The program: the one that OAUTH2_PROGRAM names, or OAUTH2_KEEPER, else the proved one, else one that is not proved, of which
-    there is a line by the tool of this name."""
+    """The program: the one that OAUTH2_PROGRAM names, or OAUTH2_KEEPER, else the proved one, else one that is not proved. Where that is
+    compiled, there is a line by the tool of this name."""
     path = programs.named(name)
     if not path and program.is_proved(name):
         path = program.path_of(name)
@@ -31,9 +33,19 @@ def has_library():
     return c_library.is_proved()
 
 
+def take(archive, by):
+    """Takes the program from an archive, if it is one of these sources. A line by the tool of this name says if it is not proved."""
+    try:
+        if not carried.take(archive):
+            endings.note('the program is taken from %s; it is not proved, tools/prove does that' % archive, by)
+    except (OSError, ValueError) as error:
+        raise Stop('%s is not taken: %s' % (archive, error)) from None
+
+
 def unproved_path(name, by):
-    """The program without proofs, which is compiled where there is none yet."""
-    called, noted = programs.CALLED[name], []
+    """The program without proofs, which is compiled where there is none yet. That it is not proved is said then, once for a checkout, and
+    by --version."""
+    called = programs.CALLED[name]
     prove = 'tools/prove' if name == program.NAME else 'tools/prove ' + name
 
     def note():
@@ -41,15 +53,12 @@ def unproved_path(name, by):
             is_carried = os.path.exists(program.kept_of(name))
             why = ('the proved build here does not fit this checkout (docs/TOOL.md)' if is_carried else 'there is no %s here' % called)
             raise Stop('%s, and no kit to compile it: README.md names the kit; or %s names a program' % (why, programs.variable_of(name)))
-        noted.append(True)
-        endings.note('the %s is compiled now, once for this checkout, in about a minute; it is not proved, %s does that' % (called, prove),
-                     by)
+        endings.note('the %s is compiled now, once for this checkout, in %s; it is not proved, %s does that'
+                     % (called, program.MINUTES, prove), by)
     try:
-        path = program.unproved(note, name)
+        path = program.unproved(note, name, lambda: endings.note('another run compiles the %s now; this one waits for it' % called, by))
     except (OSError, RuntimeError) as error:
         raise Stop('the %s can not be compiled: %s' % (called, error))
-    if not noted:
-        endings.note('the %s that runs here is not proved; %s makes one that is' % (called, prove), by)
     return path
 
 

@@ -7,6 +7,9 @@ import kept
 import program
 import repository
 
+sys.path.append(repository.PYTHON)
+from lifecrib import _errors
+
 C = os.path.join(repository.ROOT, 'c')
 NAME = 'oauth2_c'
 CRATE = os.path.join(repository.CRATES, NAME)
@@ -36,6 +39,14 @@ def shared_library(archive, to):
     words = ['-Wl,-soname,' + SONAME, '-Wl,--version-script=' + os.path.join(C, 'exports.map'), *('-Wl,-u,' + it for it in EXPORTS),
              '-Wl,-z,relro,-z,now,-z,defs', '-Wl,--gc-sections', '-Wl,--build-id=none']
     subprocess.run(['cc', '-shared', '-o', to, *words, archive, kit_library()], check=True)
+
+
+def library_by_program(to):
+    """Links a shared library with the same functions, which runs the program that is beside it: for a try without a proof."""
+    kinds = ''.join(it + '\\n' for it in _errors.KINDS)
+    words = ['-shared', '-fPIC', '-O2', '-DKINDS="%s"' % kinds, '-I', C, os.path.join(repository.ROOT, 'tools', 'by_program.c')]
+    subprocess.run(['cc', *words, '-Wl,-soname,' + SONAME, '-Wl,--version-script=' + os.path.join(C, 'exports.map'),
+                    '-Wl,--build-id=none', '-o', to], check=True)
 
 
 def prove():

@@ -14,27 +14,44 @@ import time
 import repository
 
 MOST_RESULTS = 20000
+NEEDED = ('Crate', 'Kept', 'handles_of', 'rtlib')  # what is used of the code of the kit's `rt`
 A_DAY = 24 * 60 * 60
 
 
+def said_by(command):
+    """What a documented command of the kit prints: `rt doc` the path of its first page, and `rt version` which kit it is."""
+    return subprocess.run(['rt', command], stdin=subprocess.DEVNULL, stdout=subprocess.PIPE, text=True, check=True).stdout.strip()
+
+
+def folder_of_kit():
+    """The folder that has the kit."""
+    return os.path.dirname(said_by('doc'))
+
+
 def kit():
-    """The code of the kit's `rt`. Its KIT is the kit's folder, and its kit_sum() a sum of the kit."""
-    page = subprocess.run(['rt', 'doc'], stdout=subprocess.PIPE, text=True, check=True).stdout.strip()
-    loader = importlib.machinery.SourceFileLoader('rt_of_the_kit', os.path.join(os.path.dirname(page), 'bin', 'rt'))
-    made = importlib.util.module_from_spec(importlib.util.spec_from_loader(loader.name, loader))
-    loader.exec_module(made)
-    return made
+    """The code of the kit's `rt`, which knows the libraries that `rt ci` keeps; None where this kit's has no such code. There is no command
+    for that, so what uses it has to do without."""
+    try:
+        loader = importlib.machinery.SourceFileLoader('rt_of_the_kit', os.path.join(folder_of_kit(), 'bin', 'rt'))
+        made = importlib.util.module_from_spec(importlib.util.spec_from_loader(loader.name, loader))
+        loader.exec_module(made)
+        return made if all(hasattr(made, it) for it in NEEDED) else None
+    except (Exception, SystemExit):  # whatever another kit's code does
+        return None
 
 
 def has_libraries(rt, room, crate):
     """Whether a copy has the libraries that its crate needs: those of its checkout, or else those that `rt ci` passed, which it then gets.
-    rt is the kit's code. A copy that has none afterwards has lost those of its checkout too."""
+    rt is the kit's code, or None. A copy that has none afterwards may have lost those of its checkout too."""
+    if not rt:
+        return False
     try:
         rt.Crate.allowed, rt.rtlib.Crate = rt.handles_of(room), rt.Crate
         below = rt.rtlib.crates_below(os.path.join(room, 'crates', crate))[:-1]
         return all(it.is_built() for it in below) or takes_libraries(rt, below)
     except (Exception, SystemExit) as error:  # whatever another kit's code does, there is a way without it
-        print('note: the libraries that rt ci kept cannot be used: %s' % (error or type(error).__name__), file=sys.stderr)
+        print('note: this kit keeps the libraries of rt ci in another way, so they are proved here (%s)' % type(error).__name__,
+              file=sys.stderr)
         return False
 
 

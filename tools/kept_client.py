@@ -9,9 +9,10 @@ NAME = 'oauth2_http1_connections_program'
 
 # A request; the fields are pairs. And what a call of it came to: a Read or a Refused, whether it was told as one that was not answered on
 # a used connection (None where not; else whether the program says that it may be sent again), the number of the connection that it was
-# written to, whether that was opened for it, the reads in it, and the connections that were closed in it.
+# written to, whether that was opened for it, the reads in it, the connections that were closed in it, and those that it looked at, each
+# with whether it was silent.
 Request = collections.namedtuple('Request', 'method place target fields body', defaults=((), b''))
-Call = collections.namedtuple('Call', 'request result again connection opened reads closed')
+Call = collections.namedtuple('Call', 'request result again connection opened reads closed looks')
 
 
 def word(octets):
@@ -24,7 +25,7 @@ def octets(text):
 
 class Client:
     """The program, as a context. A network opens its connections, and gives and takes their bytes: open(place), write(number, bytes),
-    read(number, most) and close(number). None for a number or for bytes says that it failed."""
+    read(number, most), is_silent(number) and close(number). None for a number or for bytes says that it failed."""
 
     def __init__(self, path):
         self.run = subprocess.Popen([path], stdin=subprocess.PIPE, stdout=subprocess.PIPE, env={})
@@ -60,7 +61,7 @@ class Client:
         """What a request comes to."""
         fields = ''.join(' %s %s' % (name, word(value)) for name, value in request.fields)
         self.say('call %s %s%s %s%s' % (request.method, request.place, request.target, word(request.body), fields))
-        opened, used, reads, closed = False, None, [], []
+        opened, used, reads, closed, looks = False, None, [], [], []
         while (words := self.words())[0] != '=':
             if words[0] == 'open':
                 opened, number = True, self.network.open(tuple(words[1:]))
@@ -69,6 +70,9 @@ class Client:
                 used = int(words[1])
                 written = self.network.write(used, octets(words[2]))
                 self.say('failed' if written is None else str(written))
+            elif words[0] == 'look':
+                looks.append((int(words[1]), self.network.is_silent(int(words[1]))))
+                self.say('silent' if looks[-1][1] else 'waits')
             elif words[0] == 'read':
                 piece = self.network.read(int(words[1]), int(words[2]))
                 reads.append(piece or b'')
@@ -77,7 +81,7 @@ class Client:
                 closed.append(int(words[1]))
                 self.network.close(closed[-1])
         result, again = result_of(words[1:])
-        return Call(request, result, again, used, opened, reads, closed)
+        return Call(request, result, again, used, opened, reads, closed, looks)
 
 
 def result_of(words):

@@ -4,17 +4,31 @@ import os
 import subprocess
 import sys
 import time
-from concurrent.futures import ThreadPoolExecutor, as_completed
+from concurrent.futures import FIRST_COMPLETED, ThreadPoolExecutor, wait
 
+import processes
 import program
 import repository
 
 NAMES, COSTS = os.path.join('docs', 'public-names.txt'), os.path.join('docs', 'GATE.md')
-RUNNING = set()  # the processes under way
+RUNNING = {}  # of each process under way, what it is called and when it began
+EACH = 20  # seconds after which a line says what runs
+LIMIT = 60  # seconds that `rt try` gives a program
+NO_ANSWER = 6  # the status of `rt try` where a program gave none in time
 
 # A check: what it is called, the folder in which its command runs and what that reads on standard input, and a function that says by the
 # status, standard output and standard error why it failed, or gives None.
 Check = collections.namedtuple('Check', 'name folder command given fault')
+
+
+class TimeLimit(str):
+    """The fault of a check that was stopped at its time limit."""
+
+
+def fault_of_try(status, out, err):
+    """The fault of `rt try --test`, which has to end with status 0."""
+    said = fault_of_status(status, out, err)
+    return TimeLimit('it had not ended after %d seconds, its time limit\n%s' % (LIMIT, said)) if status == NO_ANSWER else said
 
 
 def fault_of_status(status, out, err):
@@ -61,7 +75,7 @@ def has_tests(crate):
 def tests_of(crate):
     """A crate's tests, compiled without proofs."""
     folder = os.path.join(repository.CRATES, crate)
-    return Check('tests of ' + crate, folder, ['rt', 'try', '--test'], b'', fault_of_status)
+    return Check('tests of ' + crate, folder, ['rt', 'try', '--test'], b'', fault_of_try)
 
 
 def run_of(crate):
@@ -69,8 +83,10 @@ def run_of(crate):
     folder, wanted = os.path.join(repository.CRATES, crate), program.stored(crate, 'stdout')
     status = int(program.stored(crate, 'status') or 0)
 
-    def fault(_, out, err):
+    def fault(status_of_try, out, err):
         ended = program.status_of_try(err)
+        if ended is None and status_of_try == NO_ANSWER:
+            return fault_of_try(status_of_try, b'', err)
         if ended is None:
             return err.decode(errors='replace').rstrip() or 'rt try said nothing'
         if ended != status:
@@ -95,30 +111,59 @@ def unproved():
 
 
 def fault_of(check):
-    """Runs a check: the seconds by the clock, and why it failed, or None."""
-    begun, how = time.time(), dict(stdin=subprocess.PIPE, stdout=subprocess.PIPE, stderr=subprocess.PIPE)
+    """Runs a check: the seconds by the clock, and why it failed, or None. What it starts is no part of the terminal's group, so Ctrl-C
+    comes to this process alone, which then ends all of them."""
+    begun, how = time.time(), dict(stdin=subprocess.PIPE, stdout=subprocess.PIPE, stderr=subprocess.PIPE, start_new_session=True)
     with subprocess.Popen(check.command, cwd=check.folder, **how) as run:
-        RUNNING.add(run)
+        RUNNING[run] = (check.name, begun)
         out, err = run.communicate(check.given)
-        RUNNING.discard(run)
+        RUNNING.pop(run)
     return time.time() - begun, check.fault(run.returncode, out, err)
 
 
 def stop(number, _):
-    """Ends the checks under way, as a signal asks."""
-    for run in list(RUNNING):
-        run.terminate()
+    """Ends the checks under way, and all that they have started, as a signal asks."""
+    print('tools/test: stopped', file=sys.stderr, flush=True)
+    processes.end([it.pid for it in list(RUNNING)])
     os._exit(128 + number)
 
 
 def run(checks, lanes):
-    """Runs checks side by side and prints how each ended: how many passed and how many failed."""
-    failed = 0
+    """Runs checks side by side and prints how each ended: how many passed and how many failed. A check that met its time limit is run again
+    alone, once the others have ended."""
+    shown = Shown(len(checks))
     with ThreadPoolExecutor(lanes) as pool:
-        pending = {pool.submit(fault_of, it): it for it in checks}
-        for future in as_completed(pending):
-            seconds, fault = future.result()
-            failed += fault is not None
-            end = 'passed' if fault is None else 'FAILED: ' + fault
-            print('%s (%.0f s): %s' % (pending[future].name, seconds, end), flush=True)
-    return len(checks) - failed, failed
+        pending, late = {pool.submit(fault_of, it): it for it in checks}, []
+        while pending:
+            for future in wait(pending, EACH, FIRST_COMPLETED).done:
+                check, (seconds, fault) = pending.pop(future), future.result()
+                if isinstance(fault, TimeLimit):
+                    late.append(check)
+                    print('%s (%.0f s): %s; it is run again alone' % (check.name, seconds, fault), flush=True)
+                else:
+                    shown.end(check, seconds, fault)
+            shown.under_way(RUNNING)
+    for check in late:
+        shown.end(check, *fault_of(check))
+    return shown.done - shown.failed, shown.failed
+
+
+class Shown:
+    """The lines of a run over so many checks."""
+
+    def __init__(self, number):
+        self.number, self.done, self.failed, self.said = number, 0, 0, time.time()
+
+    def end(self, check, seconds, fault):
+        """Says how a check ended."""
+        self.done, self.failed, self.said = self.done + 1, self.failed + (fault is not None), time.time()
+        end = 'passed' if fault is None else 'FAILED: ' + fault
+        print('[%d of %d] %s (%.0f s): %s' % (self.done, self.number, check.name, seconds, end), flush=True)
+
+    def under_way(self, running):
+        """Says what runs, and for how long, if nothing was said for a while."""
+        now = time.time()
+        if running and now > self.said + EACH:
+            self.said = now
+            what = ', '.join('%s (%.0f s)' % (name, now - begun) for name, begun in list(running.values()))
+            print('[%d of %d] under way: %s' % (self.done, self.number, what), file=sys.stderr, flush=True)

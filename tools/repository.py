@@ -10,6 +10,7 @@ ROOT = os.path.dirname(os.path.dirname(os.path.abspath(__file__)))
 CRATES = os.path.join(ROOT, 'crates')
 PYTHON = os.path.join(ROOT, 'python')
 PARTS = ('src', 'specs', 'proofs')
+CODE = ('src',)
 
 
 def lines(root=ROOT):
@@ -39,28 +40,26 @@ def layers_of(text):
 def pages(root=ROOT):
     """The paths of the pages, from the top of the repository, without those of the crates."""
     docs = sorted(it for it in os.listdir(os.path.join(root, 'docs')) if it.endswith('.md'))
-    return ['README.md', 'CONTRIBUTING.md', *(os.path.join('docs', it) for it in docs)]
+    return ['README.md', 'CONTRIBUTING.md', 'CHANGELOG.md', 'SECURITY.md', *(os.path.join('docs', it) for it in docs)]
 
 
 def below(root=ROOT):
     """The crates of the repository that each one stands on, lowest first."""
-    uses = {name: row.partition(':')[2].split() for name, row in lines(root).items()}
+    uses, found = {name: row.partition(':')[2].split() for name, row in lines(root).items()}, {}
 
     def all_below(name):
-        found = []
-        for it in uses[name]:
-            if it in uses:
-                found += [more for more in all_below(it) + [it] if more not in found]
-        return found
+        if name not in found:
+            found[name] = list(dict.fromkeys(more for it in uses[name] if it in uses for more in [*all_below(it), it]))
+        return found[name]
     return {name: all_below(name) for name in uses}
 
 
-def sum_of_sources(crate, root=ROOT):
+def sum_of_sources(crate, root=ROOT, parts=PARTS):
     """A sum over the files that the prover reads of a crate and of the crates below it, and over their lines in crates.txt."""
     found, rows = hashlib.sha256(), lines(root)
     for name in below(root)[crate] + [crate]:
         found.update(rows[name].encode())
-        for part in PARTS:
+        for part in parts:
             for at, folders, files in os.walk(os.path.join(root, 'crates', name, part)):
                 folders.sort()
                 for path in [os.path.join(at, file) for file in sorted(files)]:
@@ -68,6 +67,11 @@ def sum_of_sources(crate, root=ROOT):
                         one = hashlib.sha256(f.read()).hexdigest()
                     found.update(('%s %s\n' % (os.path.relpath(path, root), one)).encode())
     return found.hexdigest()
+
+
+def sum_of_code(crate, root=ROOT):
+    """A sum over the files that `rt try` compiles, which reads no definition and no proof, and over their lines in crates.txt."""
+    return sum_of_sources(crate, root, CODE)
 
 
 def changed(base, parts=PARTS, root=ROOT):

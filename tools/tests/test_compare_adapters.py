@@ -25,7 +25,7 @@ BUGS = [("name == 'error' and isinstance", 'isinstance'), ("'access_token', 'dev
         ("('utf-8', 'replace')", "('latin-1')"), ("body.split(b'&') if it", "body.split(b'&')"),
         ('if len({name for name, _ in pairs}) < len(pairs)', 'if False'), ("name == 'expires_in' and re", 'name in NAMES and re'),
         ("name == 'expires_in' and re", 'False and re'), ("return status, [b'application/json'], Object", 'return status, types, Object'),
-        ('DEEPEST = 128', 'DEEPEST = 127'), ("text.encode('utf-8')", 'pass'), ('parse_constant=refuse', 'parse_constant=Number'),
+        ('DEEPEST = 127', 'DEEPEST = 128'), ("text.encode('utf-8')", 'pass'), ('parse_constant=refuse', 'parse_constant=Number'),
         ("decode('utf-8'), object", "decode('utf-8', 'replace'), object"), ('Object(list(pairs))', 'Object(list(dict(pairs).items()))')]
 
 

@@ -53,7 +53,11 @@ def read(it, number):
 def call(method, url, _, *fields):
     place, _, target = url.partition('.example')
     place, target = place + target.partition('/')[0], '/' + target.partition('/')[2]
-    number, it = idle.pop(place, None) or (ask('open', place), h11.Connection(h11.CLIENT, max_incomplete_event_size=1 << 30))
+    found = idle.pop(place, None)
+    if found and ask('look', found[0]) != 'silent':
+        print('close', found[0])
+        found = None
+    number, it = found or (ask('open', place), h11.Connection(h11.CLIENT, max_incomplete_event_size=1 << 30))
     sent = [('Host', 'a')] + [('connection', 'close')] * bool(fields)
     ask('write', number, (method + ' / HTTP/1.1' + '\\r\\nconnection: close' * bool(fields) + '\\r\\n\\r\\n').encode().hex())
     it.send(h11.Request(method=method, target=target, headers=sent))
@@ -147,7 +151,7 @@ class Servers(unittest.TestCase):
     def test_what_was_understood(self):
         page = judging_servers.Page('/a', 200, b'1')
         def told(result, page, request=GET, again=None):
-            return TOOL.understood(kept_client.Call(request, result, again, 1, False, [], []), page)
+            return TOOL.understood(kept_client.Call(request, result, again, 1, False, [], [], []), page)
         self.assertIsNone(told(Read(200, None, b'1'), page))
         self.assertIsNone(told(Read(200, None, b''), page, GET._replace(method='HEAD')))
         self.assertIsNone(told(Refused('x'), page, again=True))
@@ -192,8 +196,8 @@ class Judged(unittest.TestCase):
         self.assertIn(' 0 unexplained', said[-1])
 
     def test_with_a_bug(self):
-        for bug in (("it.trailing_data == (b'', False)", 'True'), ("body.hex() or '-'", "body.hex() + '00'"),
-                    ('event.status_code]', '200]')):
+        for bug in (("if found and ask('look', found[0]) != 'silent':", 'if False:'), ("it.trailing_data == (b'', False)", 'True'),
+                    ("body.hex() or '-'", "body.hex() + '00'"), ('event.status_code]', '200]')):
             with self.subTest(bug):
                 self.assertGreater(self.judged(bug)[0], 0)
 

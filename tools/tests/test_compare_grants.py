@@ -75,6 +75,9 @@ class Model:
             raise Bad('the name of a parameter is taken')
         if self.command == 'push' and not {'auth_url', 'push_url'} <= self.client.keys():
             raise Bad('no endpoint')
+        queries = '&'.join(urllib.parse.urlsplit(self.client[it]).query for it in ('auth_url', 'push_url') if self.command == 'push')
+        if {'client_id', 'request_uri'} & dict(urllib.parse.parse_qsl(queries, True)).keys() and not self.has('queries unchecked'):
+            raise Bad('an endpoint has it')
 
     def grant_pairs(self):
         """Those of a grant that is no older one."""
@@ -170,6 +173,10 @@ class Model:
             self.command == 'exchange_token' and not self.has('no issued type'))
         if not all(it in found for it in needed):
             raise Bad('Failed to parse server response')
+        if is_push and not self.has('an empty request_uri') and found['request_uri'] in ('', 0):
+            raise Bad('Failed to parse server response')
+        if is_push and not self.has('a lifetime of 0') and found['expires_in'] in ('', 0):
+            raise Bad('Failed to parse server response')
         if is_push:
             name = [('request_uri', found['request_uri'])] + [('client_id', self.client['id'])] * (not self.has('a URL without the client'))
             self.url(name + self.pairs() * self.has('all in the URL'))
@@ -184,7 +191,7 @@ class Model:
 BUGS = ('uris', 'resource unchecked', 'secret and assertion', 'plain challenge', 'scopes', 'login', 'resources turned', 'one resource', 'type',
         'assertion turned', 'plus', 'types unchecked', 'actor alone', 'extra unchecked', 'plain assertion', 'base64', 'padding', 'one kind',
         'audiences turned', 'one audience', 'no actor', 'client_id twice', 'a push without a secret', 'any status', 'no issued type',
-        'a URL without the client', 'all in the URL')
+        'a URL without the client', 'all in the URL', 'an empty request_uri', 'a lifetime of 0', 'queries unchecked')
 
 
 class Judge(unittest.TestCase):

@@ -38,7 +38,7 @@ BUGS = [('not LETTERS.issuperset(text) or', ''), ('or len(text) % 4 == 1', ''), 
         ("isinstance(value, str) and kind != 'texts'", 'isinstance(value, str)'), ("or is_list and kind != 'text'", 'or is_list'),
         ('body.decode()', "body.decode('latin-1')"), ('body.decode()', "body.decode('utf-8-sig')"),
         ('body.decode()', "body.decode(errors='replace')"), ('return dict(found)', 'return dict(reversed(found))'),
-        ("': not an object'", "': not one whole JSON value'"), ('if is_needed or value is not None and', 'if is_needed or name in found and'),
+        ("': not an object'", "': not one whole JSON value'"), ('in found or value is not None and', 'in found or name in found and'),
         ('if name not in found and is_needed', 'if value is None and is_needed'), ("'kid': ('text', False)", ''),
         ("'sub': ('text', True)", "'sub': ('text', False)"), ("'iat': ('time', True)", "'iat': ('time', False)"),
         ("'aud': ('text or texts', True)", "'aud': ('texts', True)"), ("'amr': ('texts', False)", "'amr': ('text or texts', False)"),
@@ -84,7 +84,10 @@ BUGS = [('not LETTERS.issuperset(text) or', ''), ('or len(text) % 4 == 1', ''), 
         ("nonce is not None and claims['nonce'] != nonce", "nonce is not None and claims['nonce'].lower() != nonce.lower()"),
         ("max_age is not None and 'auth_time' not in", "max_age and 'auth_time' not in"),
         ("'auth_time' not in claims", "not claims.get('auth_time')"), ('> max_age * SECOND + leeway', '>= max_age * SECOND + leeway'),
-        ('> max_age * SECOND + leeway', '> max_age * SECOND'), ("now - claims['auth_time'] > max_age", "abs(now - claims['auth_time']) > max_age"),
+        ('> max_age * SECOND + leeway', '> max_age * SECOND'), ("claims['auth_time'] > now + leeway", "claims['auth_time'] > now"),
+        ('nanoseconds(start) > now + leeway', 'nanoseconds(start) >= now + leeway'), ('nanoseconds(start) > now + leeway', 'nanoseconds(start) > now'),
+        ("header.get('b64', True) is not True", "not header.get('b64', True)"), ("if 'typ' in header and", "if header.get('typ') is not None and"),
+        ("'jwt', 'application/jwt'", "'jwt', 'at+jwt', 'application/jwt'"), ("name == 'kid' and name in found or ", ''),
         ("'at_hash' not in claims", "not claims.get('at_hash')"), ('[:hashed.digest_size // 2]', ''),
         ('digest()[:hashed.digest_size // 2]', 'digest()[hashed.digest_size // 2:]'),
         ('digest()[:hashed.digest_size // 2]', 'digest()[:16]'), ("!= claims['at_hash']", "!= claims['at_hash'].rstrip('=')"),
@@ -99,7 +102,7 @@ BUGS = [('not LETTERS.issuperset(text) or', ''), ('or len(text) % 4 == 1', ''), 
 
 # The texts of the first of two rules of which never both are broken, so that their order is not seen.
 ALONE = ('the token has no signature', 'several audiences, and no authorized party', 'the token has no nonce',
-         'the token has a nonce, and none was sent')
+         'the token has a nonce, and none was sent', 'the user logged in in the future')
 
 
 def in_other_order():
@@ -228,8 +231,8 @@ class IdTokens(unittest.TestCase):
     def test_each_end_is_met_often(self):
         tokens = TOOL.Tokens(1)
         ends = collections.Counter(TOOL.end_of(TOOL.read(tokens.script())[0]) for _ in range(3000))
-        self.assertEqual(len(ends), 46)
-        self.assertEqual(len(list(in_other_order())), 9)
+        self.assertEqual(len(ends), 51)
+        self.assertEqual(len(list(in_other_order())), 13)
         self.assertGreaterEqual(min(ends.values()), 10, ends)
 
     def test_each_bug_is_seen(self):

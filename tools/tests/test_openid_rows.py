@@ -21,6 +21,8 @@ CLIENT_ID = 's6BhdRkqt3'
 REDIRECT_URI = 'https://client.example.org/cb'
 VERIFIER = 'dBjftJeZ4CVP-mB92K27uhbUJU1p1r_wW1gFWFOEjXk'  # of RFC 7636, appendix B
 ACCESS_TOKEN = 'SlAV32hkKG'
+SERVER = dict(client_id=CLIENT_ID, token_url='https://server.example.com/token', issuer='http://server.example.com',
+              issuer_in_each_redirect=True)
 
 
 def base64url(data):
@@ -63,11 +65,11 @@ def start():
              ('code_challenge', base64url(hashlib.sha256(verifier.encode()).digest())), ('code_challenge_method', 'S256'),
              ('redirect_uri', REDIRECT_URI), ('scope', 'openid profile email'), ('nonce', nonce), ('max_age', '3600'), ('prompt', 'consent')]
     return ['url https://server.example.com/authorize?' + urlencode(pairs),
-            stored(state=state, verifier=verifier, redirect_uri=REDIRECT_URI, nonce=nonce, max_age=3600)]
+            stored(state=state, verifier=verifier, redirect_uri=REDIRECT_URI, nonce=nonce, max_age=3600, **SERVER)]
 
 
 def read_and_stored():
-    return [stored(state='af0ifjsldkj', verifier=VERIFIER, redirect_uri=REDIRECT_URI, nonce='n-0S6_WzA2Mj', max_age=100)]
+    return [stored(state='af0ifjsldkj', verifier=VERIFIER, redirect_uri=REDIRECT_URI, nonce='n-0S6_WzA2Mj', max_age=100, **SERVER)]
 
 
 def login():

@@ -1,4 +1,5 @@
 """Tests of tools/package-c, and of the header and the example that it packs. The library is a stand-in in C, so nothing is proved."""
+import ctypes
 import hashlib
 import os
 import re
@@ -237,6 +238,33 @@ class PackageC(unittest.TestCase):
 
     def field(self, path, name):
         return subprocess.run(['dpkg-deb', '-f', path, name], capture_output=True, text=True, check=True).stdout.strip()
+
+    def test_a_library_that_runs_the_program_beside_it(self):
+        """What --unproved packs, with a stand-in of the program; it may be moved, and has the kinds of docs/SCRIPT.md."""
+        folder = os.path.join(self.room, 'moved')
+        os.mkdir(folder)
+        library, program = os.path.join(folder, 'liblifecrib.so'), os.path.join(folder, 'oauth2_run')
+        c_library.library_by_program(library)
+        with open(program, 'w', encoding='utf-8') as f:
+            f.write('#!/bin/sh\n/bin/cat; exit 1\n')
+        os.chmod(program, 0o755)
+        self.assertEqual(self.exported(library), sorted(name for name, _ in exports()))
+        used = os.path.join(self.room, 'used')
+        subprocess.run(['cc', os.path.join(C, 'examples', 'run.c'), '-I', C, library, '-Wl,-rpath,' + folder, '-o', used], check=True)
+        os.symlink(library, os.path.join(folder, c_library.SONAME))
+        run = subprocess.run([used], input=b'abc', capture_output=True)
+        self.assertEqual((run.returncode, run.stdout), (1, b'abc'), run.stderr)
+        loaded, length = ctypes.CDLL(library), ctypes.c_size_t()
+        for call, wanted in ((loaded.lifecrib_version, version.VERSION), (loaded.lifecrib_kinds, 'missing_endpoint\n')):
+            output = ctypes.create_string_buffer(4096)
+            call(output, ctypes.c_size_t(4096), ctypes.byref(length))
+            self.assertTrue(output.raw[:length.value].decode().startswith(wanted))
+
+    def test_unproved_makes_tar_alone(self):
+        for words in (['deb'], ['--library', '/none.a']):
+            run = subprocess.run([os.path.join(tool.TOOLS, 'package-c'), '--unproved', *words], capture_output=True, text=True)
+            self.assertEqual(run.returncode, 2)
+            self.assertIn('--unproved makes tar alone', run.stderr)
 
     def test_a_kind_that_is_none(self):
         run = subprocess.run([sys.executable, os.path.join(tool.TOOLS, 'package-c'), 'rpm'], capture_output=True, text=True)

@@ -200,13 +200,13 @@ class Steps(unittest.TestCase):
     def test_a_command_that_fails(self):
         is_so, said = taken('    $ echo why >&2; exit 3\n')
         self.assertFalse(is_so)
-        self.assertIn('it ends with status 3\nwhy\n', said)
+        self.assertIn('it ends with status 3\nwhy\nand the page has\n', said)
 
     def test_a_command_that_does_not_end(self):
         with mock.patch.object(readme, 'LIMIT', 0.1):
             is_so, said = taken('    $ sleep 60 & sleep 60\n')
         self.assertFalse(is_so)
-        self.assertIn('it ends with status -9', said)
+        self.assertIn('it had not ended after 0.1 seconds, its time limit', said)
 
     def test_the_server_of_the_page_is_replaced(self):
         self.assertTrue(taken('    $ echo https://as.example/token\n    http://127.0.0.1:1/token\n')[0])

@@ -75,18 +75,6 @@ class Shell(unittest.TestCase):
         self.assertEqual(self.run_shell(header, 5), (5, ''))
         self.assertEqual(self.run_shell(token, 0), (0, 'login --username oauth2 --password-stdin registry.example\nt1\n'))
 
-    def test_a_build_that_is_carried_to_another_machine(self):
-        folder = os.path.join('crates', 'oauth2_run', 'out')
-        for name in ('oauth2_run', 'oauth2_run.proved'):
-            self.written(os.path.join(folder, name), name)
-        self.assertEqual(self.run_shell(block('cd crates/oauth2_run/out\n'))[0], 0)
-        there = block('mkdir -p crates/oauth2_run/out\n').replace('FROM', os.path.join(self.top, folder))
-        carried = 'set -e\nmkdir -p there\ncd there\n' + there
-        self.assertEqual(self.run_shell(carried), (0, 'oauth2_run: OK\noauth2_run.proved: OK\n'))
-        self.assertTrue(os.access(os.path.join(self.top, 'there', folder, 'oauth2_run'), os.X_OK))
-        self.written(os.path.join(folder, 'oauth2_run'), 'damaged')
-        self.assertEqual(self.run_shell(carried)[0], 1)
-
 
 if __name__ == '__main__':
     unittest.main()

@@ -53,7 +53,6 @@ class Kept:
     def give(self, crate, tests, key):
         os.makedirs(crate.folder + '/out/rlib', exist_ok=True)
         return os.path.isfile(KIT + '/kept-' + key)
-def kit_sum(): return open(KIT + '/sum').read()
 def handles_of(root): return ()
 def crates_below(folder):
     root = os.path.dirname(os.path.dirname(folder))
@@ -80,6 +79,8 @@ def check():
 if __name__ == '__main__':
     if sys.argv[1] == 'doc':
         print(KIT + '/START-HERE.md')
+    elif sys.argv[1] == 'version':
+        print(open(KIT + '/sum').read())
     else:
         sys.exit(check())
 '''
@@ -448,12 +449,30 @@ class Whole(InAFolder):
             status, said, _ = self.run_tool(*words)
             self.assertEqual((status, said[-1]), (2, 'tools/wrong-bodies: error: ' + why))
 
-    def test_without_the_code_of_the_kit_nothing_is_kept(self):
-        write(self.kit, 'bin/rt', KIT.replace('def kit_sum()', 'def other_sum()'))
-        for _ in range(2):
-            status, said, checks = self.run_tool('low')
-            self.assertEqual((status, said[-1], checks), (0, '2 refused (0 of them kept), 0 not refused, 0 bad', ['low 0', 'low 2']))
-        self.assertIn('so results are not kept', said[0])
+    def test_a_kit_whose_code_is_another(self):
+        """Its documented commands are enough: results are kept, and no fault of its code is shown."""
+        for changed in (KIT.replace('class Kept', 'class Other'), KIT.replace('def give(', 'def gives(')):
+            write(self.kit, 'bin/rt', changed)
+            for kept_before in (0, 2):
+                status, said, _ = self.run_tool(*['--anew'] * (not kept_before), 'low')
+                self.assertEqual((status, said[-1]), (0, '2 refused (%d of them kept), 0 not refused, 0 bad' % kept_before))
+                self.assertNotIn('attribute', '\n'.join(said))
+
+
+@unittest.skipUnless(repository.has_kit(), 'there is no kit here')
+class KitAtHand(unittest.TestCase):
+    """What is used of the kit that is here."""
+
+    def test_its_commands(self):
+        self.assertRegex(kept.said_by('version'), r'\A\S+ logic \w+\Z')
+        self.assertTrue(os.path.isfile(os.path.join(kept.folder_of_kit(), 'bin', 'rt')))
+
+    def test_its_code_is_used_or_done_without(self):
+        said = io.StringIO()
+        with repository.copy('lru_laws', keeps=False, built=False) as room, contextlib.redirect_stderr(said):
+            has_all = kept.has_libraries(kept.kit(), room, 'lru_laws')
+        self.assertTrue(has_all or kept.kit() is None, said.getvalue())
+        self.assertEqual(said.getvalue(), '')
 
 
 if __name__ == '__main__':
