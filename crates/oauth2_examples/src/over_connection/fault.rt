@@ -3,7 +3,7 @@
 ghost use Rattle.std.specs.Prelude.{◌≡◌};
 ghost use Rattle.oauth2_examples.specs.Fault.{fault_exit_status};
 
-use oauth2::{ParseCause, ReadError, RequestTokenError, ToJson};
+use oauth2::{ParseCause, ReadError, RequestTokenError, ToJson, WriteError};
 use serde_json::{Value, json};
 use std::alloc::{AllocError, AllocFailed, Global};
 use std::fmt::Display;
@@ -124,7 +124,7 @@ fn error_value<E: Display>(alloc: Global, error: &E) -> Result<Value, AllocError
 }
 
 // An object with the text of an error, and its cause and the server's reply where the text leaves
-// them out.
+// them out. Of a reply that cannot be written as JSON it has the reason.
 fn request_value<E: Display, R: Display + ToJson>(
     alloc: Global,
     error: &RequestTokenError<E, R>,
@@ -142,7 +142,11 @@ fn request_value<E: Display, R: Display + ToJson>(
         }
         RequestTokenError::ServerResponse(response) => match response.to_json(alloc) {
             Ok(reply) => json!(in alloc; {"error": text, "reply": reply}),
-            Err(_) => Err(AllocError),
+            Err(WriteError::Memory) => Err(AllocError),
+            Err(unwritten) => {
+                let cause = unwritten.to_string(alloc)?;
+                json!(in alloc; {"error": text, "cause": cause})
+            }
         },
         _ => json!(in alloc; {"error": text}),
     }
