@@ -18,13 +18,21 @@ use sha2::{Digest, Sha256, Sha384, Sha512};
 fn has_sha256(algorithm: &str) -> bool
     ensures { result ≡ is_among algorithm.now sha256_algorithms }
 {
-    "RS256" == algorithm || "ES256" == algorithm || "PS256" == algorithm || "HS256" == algorithm
+    "RS256" == algorithm
+        || "ES256" == algorithm
+        || "PS256" == algorithm
+        || "HS256" == algorithm
+        || "ESP256" == algorithm
 }
 
 fn has_sha384(algorithm: &str) -> bool
     ensures { result ≡ is_among algorithm.now sha384_algorithms }
 {
-    "RS384" == algorithm || "ES384" == algorithm || "PS384" == algorithm || "HS384" == algorithm
+    "RS384" == algorithm
+        || "ES384" == algorithm
+        || "PS384" == algorithm
+        || "HS384" == algorithm
+        || "ESP384" == algorithm
 }
 
 fn has_sha512(algorithm: &str) -> bool
@@ -35,6 +43,8 @@ fn has_sha512(algorithm: &str) -> bool
         || "PS512" == algorithm
         || "HS512" == algorithm
         || "EdDSA" == algorithm
+        || "ESP512" == algorithm
+        || "Ed25519" == algorithm
 }
 
 // Whether `told` is these bytes in base64url.

@@ -4,7 +4,6 @@ ghost use Rattle.std.specs.Prelude.{◌≡◌};
 ghost use Rattle.oauth2_keys.specs.Algorithm.{
   algorithm_name,
   algorithm_named,
-  curve_algorithm,
   is_eddsa,
   is_of_curve,
   rsa_scheme,
@@ -13,8 +12,8 @@ ghost use Rattle.oauth2_keys.specs.Algorithm.{
 use ecdsa_signatures::EllipticCurve;
 use rsa_signatures::{HashFunction, SignatureScheme};
 
-/// An algorithm for signatures that a public key checks (RFC 7518, 3.1; RFC 8037, 3.1). `none` is
-/// not one of them.
+/// An algorithm for signatures that a public key checks (RFC 7518, 3.1; RFC 8037, 3.1; RFC 9864,
+/// 2). `none` is not one of them.
 #[derive(Clone, Copy, Debug, PartialEq, Eq, Drop)]
 pub enum SignatureAlgorithm {
     /// `RS256`
@@ -35,6 +34,12 @@ pub enum SignatureAlgorithm {
     Es384,
     /// `EdDSA`, with a key on the curve Ed25519
     Eddsa,
+    /// `ESP256`: what `ES256` is, by the name that also tells the curve
+    Esp256,
+    /// `ESP384`: what `ES384` is, by the name that also tells the curve
+    Esp384,
+    /// `Ed25519`: what `EdDSA` is with a key on that curve
+    Ed25519,
 }
 
 impl SignatureAlgorithm {
@@ -52,6 +57,9 @@ impl SignatureAlgorithm {
             "ES256" => Some(SignatureAlgorithm::Es256),
             "ES384" => Some(SignatureAlgorithm::Es384),
             "EdDSA" => Some(SignatureAlgorithm::Eddsa),
+            "ESP256" => Some(SignatureAlgorithm::Esp256),
+            "ESP384" => Some(SignatureAlgorithm::Esp384),
+            "Ed25519" => Some(SignatureAlgorithm::Ed25519),
             _ => None,
         }
     }
@@ -70,6 +78,9 @@ impl SignatureAlgorithm {
             SignatureAlgorithm::Es256 => "ES256",
             SignatureAlgorithm::Es384 => "ES384",
             SignatureAlgorithm::Eddsa => "EdDSA",
+            SignatureAlgorithm::Esp256 => "ESP256",
+            SignatureAlgorithm::Esp384 => "ESP384",
+            SignatureAlgorithm::Ed25519 => "Ed25519",
         }
     }
 
@@ -84,33 +95,29 @@ impl SignatureAlgorithm {
             SignatureAlgorithm::Ps256 => Some(SignatureScheme::Pss(HashFunction::Sha256)),
             SignatureAlgorithm::Ps384 => Some(SignatureScheme::Pss(HashFunction::Sha384)),
             SignatureAlgorithm::Ps512 => Some(SignatureScheme::Pss(HashFunction::Sha512)),
-            SignatureAlgorithm::Es256 | SignatureAlgorithm::Es384 | SignatureAlgorithm::Eddsa => {
-                None
-            }
+            SignatureAlgorithm::Es256
+            | SignatureAlgorithm::Es384
+            | SignatureAlgorithm::Eddsa
+            | SignatureAlgorithm::Esp256
+            | SignatureAlgorithm::Esp384
+            | SignatureAlgorithm::Ed25519 => None,
         }
     }
 
-    // Whether the algorithm is `EdDSA`.
+    // Whether the algorithm is that of keys on the curve Ed25519.
     pub(crate) fn is_eddsa(self) -> bool
         ensures { result ≡ is_eddsa self }
     {
-        self.name() == "EdDSA"
+        "EdDSA" == self.name() || "Ed25519" == self.name()
     }
 
     // Whether the algorithm is the one of this curve.
     pub(crate) fn is_of_curve(self, curve: EllipticCurve) -> bool
         ensures { result ≡ is_of_curve curve self }
     {
-        self.name() == curve_algorithm(curve)
-    }
-}
-
-// The name of the algorithm of a curve.
-fn curve_algorithm(curve: EllipticCurve) -> &'static str
-    ensures { result.now ≡ curve_algorithm curve }
-{
-    match curve {
-        EllipticCurve::P256 => "ES256",
-        EllipticCurve::P384 => "ES384",
+        match curve {
+            EllipticCurve::P256 => "ES256" == self.name() || "ESP256" == self.name(),
+            EllipticCurve::P384 => "ES384" == self.name() || "ESP384" == self.name(),
+        }
     }
 }

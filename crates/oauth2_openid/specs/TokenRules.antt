@@ -53,19 +53,21 @@ start_rule expected now other_claims =
     rule (has_started (now +ℤ pos expected.leeway) (get (codes "nbf") other_claims))
     errors.NotYetValid
 
--- the algorithms whose hash is SHA-256 (RFC 7518, 3.1)
+-- the algorithms whose hash is SHA-256 (RFC 7518, 3.1; RFC 9864, 2.1)
 abbrev pub sha256_algorithms : List (List ℕ)
-sha256_algorithms = codes "RS256" ∷ codes "ES256" ∷ codes "PS256" ∷ codes "HS256" ∷ []
+sha256_algorithms =
+    codes "RS256" ∷ codes "ES256" ∷ codes "PS256" ∷ codes "HS256" ∷ codes "ESP256" ∷ []
 
--- the algorithms whose hash is SHA-384 (RFC 7518, 3.1)
+-- the algorithms whose hash is SHA-384 (RFC 7518, 3.1; RFC 9864, 2.1)
 abbrev pub sha384_algorithms : List (List ℕ)
-sha384_algorithms = codes "RS384" ∷ codes "ES384" ∷ codes "PS384" ∷ codes "HS384" ∷ []
+sha384_algorithms =
+    codes "RS384" ∷ codes "ES384" ∷ codes "PS384" ∷ codes "HS384" ∷ codes "ESP384" ∷ []
 
--- the algorithms whose hash is SHA-512 (RFC 7518, 3.1), and EdDSA, as a signature by Ed25519 hashes
--- (RFC 8037, 3.1; RFC 8032, 5.1)
+-- the algorithms whose hash is SHA-512 (RFC 7518, 3.1; RFC 9864, 2.1), and EdDSA and Ed25519, as a
+-- signature by Ed25519 hashes (RFC 8037, 3.1; RFC 9864, 2.2; RFC 8032, 5.1)
 abbrev pub sha512_algorithms : List (List ℕ)
 sha512_algorithms =
-    codes "RS512" ∷ codes "ES512" ∷ codes "PS512" ∷ codes "HS512" ∷ codes "EdDSA" ∷ []
+    codes "RS512" ∷ codes "ES512" ∷ codes "PS512" ∷ codes "HS512" ∷ codes "EdDSA" ∷ codes "ESP512" ∷ codes "Ed25519" ∷ []
 
 -- the left half of the access token's digest by the algorithm's hash; none for other algorithms
 abbrev pub half_digest : List ℕ → List ℕ → Option (List ℕ)

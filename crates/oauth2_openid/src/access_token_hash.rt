@@ -37,20 +37,28 @@ pub enum AccessTokenHash {
     /// It is the hash of that access token.
     Matches,
     /// It was not compared: the ID token's algorithm is neither one of the twelve of RFC 7518, 3.1,
-    /// that have a hash, nor `EdDSA`.
+    /// that have a hash, nor `EdDSA`, `ESP256`, `ESP384`, `ESP512` or `Ed25519` (RFC 9864, 2).
     NotChecked,
 }
 
 fn has_sha256(algorithm: &str) -> bool
     ensures { result ≡ is_among algorithm.now sha256_algorithms }
 {
-    "RS256" == algorithm || "ES256" == algorithm || "PS256" == algorithm || "HS256" == algorithm
+    "RS256" == algorithm
+        || "ES256" == algorithm
+        || "PS256" == algorithm
+        || "HS256" == algorithm
+        || "ESP256" == algorithm
 }
 
 fn has_sha384(algorithm: &str) -> bool
     ensures { result ≡ is_among algorithm.now sha384_algorithms }
 {
-    "RS384" == algorithm || "ES384" == algorithm || "PS384" == algorithm || "HS384" == algorithm
+    "RS384" == algorithm
+        || "ES384" == algorithm
+        || "PS384" == algorithm
+        || "HS384" == algorithm
+        || "ESP384" == algorithm
 }
 
 fn has_sha512(algorithm: &str) -> bool
@@ -61,6 +69,8 @@ fn has_sha512(algorithm: &str) -> bool
         || "PS512" == algorithm
         || "HS512" == algorithm
         || "EdDSA" == algorithm
+        || "ESP512" == algorithm
+        || "Ed25519" == algorithm
 }
 
 // Whether `told` is these bytes in base64url.

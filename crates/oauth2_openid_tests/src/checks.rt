@@ -398,6 +398,52 @@ fn compares_the_hash_by_the_algorithm(rt: HostRuntime) {
     }
 }
 
+// The same for the names of RFC 9864.
+const HASHES_BY_CURVE: [(&str, &str, &str); 7] = [
+    (
+        r#"{"alg":"ESP256"}"#,
+        r#","at_hash":"77QmUPtjPfzWtF2AnpK9RQ""#,
+        "Matches",
+    ),
+    (
+        r#"{"alg":"ESP384"}"#,
+        r#","at_hash":"jtAeDp945y1dDqU3nkIVGNZP1HjH_MFs""#,
+        "Matches",
+    ),
+    (
+        r#"{"alg":"ESP512"}"#,
+        r#","at_hash":"q7nS86GgvvFaZkzALLWqJYaJIKw2wCDAVfCAsm5CrBM""#,
+        "Matches",
+    ),
+    (
+        r#"{"alg":"Ed25519"}"#,
+        r#","at_hash":"q7nS86GgvvFaZkzALLWqJYaJIKw2wCDAVfCAsm5CrBM""#,
+        "Matches",
+    ),
+    (
+        r#"{"alg":"ESP256"}"#,
+        r#","at_hash":"jtAeDp945y1dDqU3nkIVGNZP1HjH_MFs""#,
+        "OtherAccessToken",
+    ),
+    (
+        r#"{"alg":"Ed25519"}"#,
+        r#","at_hash":"77QmUPtjPfzWtF2AnpK9RQ""#,
+        "OtherAccessToken",
+    ),
+    (
+        r#"{"alg":"Ed448"}"#,
+        r#","at_hash":"q7nS86GgvvFaZkzALLWqJYaJIKw2wCDAVfCAsm5CrBM""#,
+        "NotChecked",
+    ),
+];
+
+#[test]
+fn compares_the_hash_by_an_algorithm_that_tells_the_curve(rt: HostRuntime) {
+    for (header, more, word_wanted) in HASHES_BY_CURVE {
+        assert_row(&rt, expected(&rt), header, more, word_wanted);
+    }
+}
+
 // The algorithm that the client registered, the header, and what the check returns.
 const ALGORITHMS: [(&str, &str, &str); 5] = [
     ("RS256", r#"{"alg":"RS256"}"#, "Absent"),
