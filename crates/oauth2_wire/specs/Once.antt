@@ -44,11 +44,11 @@ module _ {D A T E RE C : Type 0} (meaning : D → A) (error_meaning : T → E)
       × (prepared ≡ Err fault.NotHttp → SpellsNone url)
       × SendsOnce before prepared result after
 
--- if memory runs out after sending, the reply did not have status 200: a success that consists of
--- its status alone (RFC 7009, 2.2) is never lost because memory ran out
+-- a step of the client with this result: if memory ran out after sending, the reply of this very
+-- step did not have status 200, so no success that is its status alone (RFC 7009, 2.2) is lost
 abbrev pub KeepsSuccess : {D T RE C : Type 0}
-    → (C → HttpRequest → Result HttpResponse RE → C → Type 0) → C
-    → Result D (RequestTokenError RE T) → C → Type 0
-KeepsSuccess step before result after =
-    result ≡ Err (token.Memory true)
-    → (request : HttpRequest) × (reply : HttpResponse) × step before request (Ok reply) after × ((reply_of reply).status ≢ 200)
+    → (C → HttpRequest → Result HttpResponse RE → C → Type 0) → Result D (RequestTokenError RE T)
+    → C → HttpRequest → Result HttpResponse RE → C → Type 0
+KeepsSuccess step result before request answer after =
+    step before request answer after
+    × (result ≡ Err (token.Memory true) → IfOk answer (λ reply. (reply_of reply).status ≢ 200))

@@ -42,7 +42,8 @@ pub fn send_once_status_only<C: SyncHttpClient, TE: FromJson>(
     requires { C.is_ready http_client.old }
     ensures once { SendsOnce (λ done. done) TE.meaning C.step (status_answer_of TE.reading)
         http_client.old prepared result http_client.new }
-    ensures success { KeepsSuccess C.step http_client.old result http_client.new }
+    ensures success { SendsOnce (λ done. done) TE.meaning (KeepsSuccess C.step result)
+        (status_answer_of TE.reading) http_client.old prepared result http_client.new }
     ensures ready { C.is_ready http_client.new }
 {
     match call(alloc, prepared, http_client) {

@@ -10,4 +10,4 @@ returns-in-Ok-clause-once g c =
 pub returns-in-Err-clause-once : goal.returns-in-Err-clause-once
 returns-in-Err-clause-once g c =
     SendsOnce-failed g.DO.FromJson.meaning g.TE.FromJson.meaning g.C.SyncHttpClient.step (answer_of c.args.rule g.DO.FromJson.reading g.TE.FromJson.reading)
-    c.args.http_client.now c.call.new.http_client c.args.prepared c.in-Err.error c.in-Err.ensures.once
+    c.args.http_client.now c.call.new.http_client g.C.SyncHttpClient.step (λ request answer did. did) c.args.prepared c.in-Err.error c.in-Err.ensures.once
