@@ -117,7 +117,9 @@ impl<'a, RT: RevocableToken + Drop, TRE: ErrorResponse> RevocationRequest<'a, RT
         ensures once { AsksOnce (λ done. done) TRE.meaning C.step
             (status_answer_of TRE.reading) (IsRequestOf (revocation_configuration self.entry))
             (serialize self.entry.revocation_url.url) http_client.old result http_client.new }
-        ensures success { KeepsSuccess C.step http_client.old result http_client.new }
+        ensures success { AsksOnce (λ done. done) TRE.meaning (KeepsSuccess C.step result)
+            (status_answer_of TRE.reading) (IsRequestOf (revocation_configuration self.entry))
+            (serialize self.entry.revocation_url.url) http_client.old result http_client.new }
         ensures ready { C.is_ready http_client.new }
     {
         let prepared = self.prepare_request(alloc);
