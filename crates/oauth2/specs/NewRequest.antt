@@ -97,11 +97,6 @@ new_introspection_request client url token = record {
   token_type_hint = None;
 }
 
--- the URL of the endpoint is an `https` URL: that is the scheme of the parsed URL, which the parser
--- writes in lower case (RFC 7009, 2)
-abbrev pub IsHttps : Addressed → Type 0
-IsHttps endpoint = endpoint.url.scheme ≡ codes "https"
-
 -- a revocation request for the token with this text and this hint (RFC 7009, 2.1)
 abbrev pub new_revocation_request : Settings → Addressed → List ℕ → Option (List ℕ)
     → TokenRevocation

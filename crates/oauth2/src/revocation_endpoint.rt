@@ -2,7 +2,8 @@
 
 ghost use Rattle.std.specs.Prelude.{◌≡◌, Some, IfSome, IfNone, IsSome, IsOkAnd, IsErrAnd, codes};
 ghost use Rattle.oauth2_wire.specs.ConfigurationError.{IsInsecureUrl, IsMissingUrl};
-ghost use Rattle.oauth2.specs.NewRequest.{IsHttps, new_revocation_request};
+ghost use Rattle.oauth2_requests.specs.TokenRevocation.{IsHttps};
+ghost use Rattle.oauth2.specs.NewRequest.{new_revocation_request};
 
 use crate::client::Client;
 use crate::endpoint::{EndpointMaybeSet, EndpointSet, EndpointState};
@@ -33,10 +34,7 @@ where
         ensures insecure { ¬ (IsHttps revocation_url.now)
             → IsErrAnd result (IsInsecureUrl (codes "revocation")) }
     {
-        if revocation_url.url().scheme() != "https" {
-            return Err(ConfigurationError::InsecureUrl("revocation"));
-        }
-        Ok(RevocationRequest::new(self.base_request(alloc), revocation_url, token))
+        RevocationRequest::new(self.base_request(alloc), revocation_url, token)
     }
 }
 

@@ -14,8 +14,8 @@ use Rattle.oauth2_wire.proofs.OnceLemmas.{AsksOnce-accepted}
 use Rattle.oauth2_wire.specs.Reply.{HttpResponse, ReplyView, Answer, accepted, refused, other, failure_answer, read_answer, reply_of, status_answer_of}
 use Rattle.oauth2_wire.specs.Request.{HttpRequest, IsRequestOf, view_of}
 use Rattle.oauth2_wire.specs.declared.error.RequestTokenError.{RequestTokenError}
-use Rattle.oauth2_requests.specs.TokenRevocation.{TokenRevocation, revocation_configuration}
-use Rattle.oauth2.specs.NewRequest.{IsHttps, new_revocation_request}
+use Rattle.oauth2_requests.specs.TokenRevocation.{IsHttps, TokenRevocation, revocation_configuration}
+use Rattle.oauth2.specs.NewRequest.{new_revocation_request}
 use Rattle.oauth2.specs.Settings.{Settings}
 
 stable : {P : Type 0} (b : Bool) → Decides b P → (¬ P → ⊥) → P

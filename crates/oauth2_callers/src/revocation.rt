@@ -5,8 +5,8 @@ ghost use Rattle.url.specs.Parts.{serialize};
 ghost use Rattle.oauth2_urls.specs.Addressed.{Addressed};
 ghost use Rattle.oauth2_wire.specs.Reply.{HttpResponse, reply_of};
 ghost use Rattle.oauth2_wire.specs.Request.{HttpRequest, IsRequestOf, view_of};
-ghost use Rattle.oauth2_requests.specs.TokenRevocation.{revocation_configuration};
-ghost use Rattle.oauth2.specs.NewRequest.{IsHttps, new_revocation_request};
+ghost use Rattle.oauth2_requests.specs.TokenRevocation.{IsHttps, revocation_configuration};
+ghost use Rattle.oauth2.specs.NewRequest.{new_revocation_request};
 
 use oauth2::basic::BasicClient;
 use oauth2::{EndpointNotSet, EndpointSet, RefreshToken, StandardRevocableToken, SyncHttpClient};

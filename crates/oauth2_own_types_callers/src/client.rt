@@ -22,11 +22,10 @@ ghost use Rattle.oauth2_requests.specs.DeviceAuthorization.{device_authorization
 ghost use Rattle.oauth2_requests.specs.Password.{password_configuration};
 ghost use Rattle.oauth2_requests.specs.Refresh.{refresh_configuration};
 ghost use Rattle.oauth2_requests.specs.TokenIntrospection.{introspection_configuration};
-ghost use Rattle.oauth2_requests.specs.TokenRevocation.{revocation_configuration};
+ghost use Rattle.oauth2_requests.specs.TokenRevocation.{IsHttps, revocation_configuration};
 ghost use Rattle.oauth2_wire.specs.ConfigurationError.{IsInsecureUrl};
 ghost use Rattle.oauth2_device.specs.Events.{PollCall, Leads};
 ghost use Rattle.oauth2.specs.NewRequest.{
-  IsHttps,
   new_client_credentials_request,
   new_code_request,
   new_device_request,

@@ -5,7 +5,7 @@ use Rattle.std.specs.declared.alloc.AllocError.{AllocError}
 use Rattle.std.proofs.lemmas.Result.{IfOk-weaker}
 use Rattle.std.specs.Str.{bytes_eq}
 use Rattle.std.proofs.lemmas.Slice.Eq.{bytes_eq-Decides}
-use Rattle.oauth2.specs.NewRequest.{IsHttps}
+use Rattle.oauth2_requests.specs.TokenRevocation.{IsHttps}
 use Rattle.oauth2_urls.specs.Addressed.{Addressed}
 use Rattle.oauth2_request_commands.specs.Client.{WithEndpoint, missing, given_or}
 use Rattle.oauth2_request_commands.specs.Out.{Output, AddsOutput, Adds}

@@ -5,9 +5,9 @@ use Rattle.oauth2_codes.specs.ErrorResponse.{ErrorParts, error_reading}
 use Rattle.oauth2_urls.specs.Addressed.{Addressed}
 use Rattle.oauth2_wire.specs.Expected.{Configuration}
 use Rattle.oauth2_wire.specs.Reply.{Answer, ReplyView, status_answer_of}
-use Rattle.oauth2.specs.NewRequest.{IsHttps, base_of}
+use Rattle.oauth2.specs.NewRequest.{base_of}
 use Rattle.oauth2.specs.Settings.{Settings}
-use Rattle.oauth2_requests.specs.TokenRevocation.{TokenRevocation, revocation_configuration}
+use Rattle.oauth2_requests.specs.TokenRevocation.{IsHttps, TokenRevocation, revocation_configuration}
 use Rattle.oauth2_request_commands.specs.Client.{WithEndpoint}
 use Rattle.oauth2_request_commands.specs.Exchange.{IsPostShown, error_members}
 use Rattle.oauth2_request_commands.specs.Out.{Output, failure_output}

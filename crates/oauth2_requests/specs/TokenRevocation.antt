@@ -1,9 +1,14 @@
 -- The revocation of a token (RFC 7009, section 2.1).
-use Rattle.std.specs.Prelude.{ℕ, List, Option, None}
+use Rattle.std.specs.Prelude.{◌≡◌, ℕ, List, Option, None, codes}
 use Rattle.oauth2_urls.specs.Addressed.{Addressed}
 use Rattle.oauth2_wire.specs.Expected.{Configuration}
 use Rattle.oauth2_requests.specs.Base.{Base, configuration_of}
 use Rattle.oauth2_requests.specs.HintedToken.{hinted_token_pairs}
+
+-- the URL of the endpoint is an `https` URL: that is the scheme of the parsed URL, which the parser
+-- writes in lower case (RFC 7009, 2)
+abbrev pub IsHttps : Addressed → Type 0
+IsHttps endpoint = endpoint.url.scheme ≡ codes "https"
 
 -- a revocation request, its endpoint, the token and the hint of its type, if any (RFC 7009, 2.1)
 pub record TokenRevocation : Type 0 where

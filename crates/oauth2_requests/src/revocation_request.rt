@@ -1,20 +1,22 @@
 //! The revocation of a token (RFC 7009, section 2).
 
-ghost use Rattle.std.specs.Prelude.{◌≡◌, ◌++◌, ◌∷◌, [], IfOk, Err};
+ghost use Rattle.std.specs.Prelude.{◌≡◌, ◌++◌, ◌∷◌, [], IfOk, IsOkAnd, IsErrAnd, Err, codes};
 ghost use Rattle.http_uri.specs.Uri.{SpellsNone};
 ghost use Rattle.url.specs.Parts.{serialize};
+ghost use Rattle.oauth2_wire.specs.ConfigurationError.{IsInsecureUrl};
 ghost use Rattle.oauth2_wire.specs.Once.{AsksOnce, KeepsSuccess};
 ghost use Rattle.oauth2_wire.specs.Reply.{status_answer_of};
 ghost use Rattle.oauth2_wire.specs.Request.{IsRequestOf, view_of};
 ghost use Rattle.oauth2_wire.specs.Texts.{param_bytes};
-ghost use Rattle.oauth2_requests.specs.TokenRevocation.{revocation_configuration};
+ghost use Rattle.oauth2_requests.specs.TokenRevocation.{IsHttps, revocation_configuration};
 
 use crate::base_request::BaseRequest;
 use oauth2_codes::ErrorResponse;
 use oauth2_replies::RevocableToken;
 use oauth2_urls::RevocationUrl;
 use oauth2_wire::{
-    HttpRequest, ParamText, RequestFault, RequestTokenError, SyncHttpClient, send_once_status_only,
+    ConfigurationError, HttpRequest, ParamText, RequestFault, RequestTokenError, SyncHttpClient,
+    send_once_status_only,
 };
 use std::alloc::{AllocError, Global};
 use std::marker::{Model, PhantomData};
@@ -49,24 +51,6 @@ where
 }
 
 impl<'a, RT: RevocableToken, TRE> RevocationRequest<'a, RT, TRE> {
-    /// A request to this endpoint. It is not tested that its URL is an `https` URL:
-    /// `oauth2::Client` tests that before it calls `new`.
-    pub fn new(base: BaseRequest<'a>, revocation_url: &'a RevocationUrl, token: RT) -> Self
-        ensures { result ≡ record {
-          base = base.entry;
-          revocation_url = revocation_url.now;
-          token = RT.secret token;
-          token_type_hint = RT.type_hint token;
-        } }
-    {
-        RevocationRequest {
-            base,
-            revocation_url,
-            token,
-            phantom: PhantomData,
-        }
-    }
-
     /// The POST that `request` sends. The error is `NotHttp` if the endpoint URL is not an HTTP
     /// target.
     pub fn prepare_request(&self, alloc: Global) -> Result<HttpRequest, RequestFault>
@@ -87,6 +71,33 @@ impl<'a, RT: RevocableToken, TRE> RevocationRequest<'a, RT, TRE> {
 }
 
 impl<'a, RT: RevocableToken + Drop, TRE> RevocationRequest<'a, RT, TRE> {
+    /// A request to this endpoint. The error is `InsecureUrl` if its URL is not an `https` URL
+    /// (RFC 7009, section 2); the token is dropped then.
+    pub fn new(
+        base: BaseRequest<'a>,
+        revocation_url: &'a RevocationUrl,
+        token: RT,
+    ) -> Result<Self, ConfigurationError>
+        ensures secure { IsHttps revocation_url.now → IsOkAnd result (λ r. r ≡ record {
+          base = base.entry;
+          revocation_url = revocation_url.now;
+          token = RT.secret token;
+          token_type_hint = RT.type_hint token;
+        }) }
+        ensures insecure { ¬ (IsHttps revocation_url.now)
+            → IsErrAnd result (IsInsecureUrl (codes "revocation")) }
+    {
+        if revocation_url.url().scheme() != "https" {
+            return Err(ConfigurationError::InsecureUrl("revocation"));
+        }
+        Ok(RevocationRequest {
+            base,
+            revocation_url,
+            token,
+            phantom: PhantomData,
+        })
+    }
+
     /// Adds an extra parameter. If the request itself sends a parameter with that name, both are
     /// sent.
     pub fn add_extra_param(

@@ -1,6 +1,6 @@
 use Rattle.std.proofs.Common.{IfSome, IsErrAnd, codes, option_copied, ap, subst, sym, ◌∙◌}
 use Rattle.oauth2_wire.specs.ConfigurationError.{IsInsecureUrl}
-use Rattle.oauth2.specs.NewRequest.{IsHttps}
+use Rattle.oauth2_requests.specs.TokenRevocation.{IsHttps}
 use Rattle.oauth2.proofs.revocation_endpoint.Client+TE+TR+TIR+RT+TRE+A+D+I+EndpointMaybeSet+T.revoke_token.Goals as goal
 
 pub returns-in-Some-clause-insecure : goal.returns-in-Some-clause-insecure
