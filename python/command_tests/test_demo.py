@@ -1,10 +1,15 @@
-"""Tests of `tools/oauth2 demo`: what its server takes and refuses, and how its steps are run. tools/readme runs the whole of it."""
+"""Tests of `tools/oauth2 demo`: what its server takes and refuses, how its steps are run, and the whole of it in a terminal.
+tools/readme runs the whole of it too."""
 import base64
 import hashlib
 import json
 import os
+import re
+import shlex
+import shutil
 import subprocess
 import sys
+import time
 import unittest
 import urllib.error
 import urllib.parse
@@ -111,6 +116,40 @@ if client.get('id') == 'bad':"""))
             self.assertEqual(demo.run(), 0)
         written = ''.join(it.args[0] for it in put.call_args_list).splitlines()
         self.assertEqual(written[3:], ['4. the renewed token: t3', '5. sign-in on a device: t4', '5 steps, and the server is gone'])
+
+
+@unittest.skipUnless(shutil.which('tmux'), 'there is no tmux here')
+class Terminal(stand_in.ByProgram, stand_in.Case):
+    """The demo in a terminal of tmux, where a user types the command."""
+
+    def tmux(self, *words):
+        """What a command of tmux prints, by a server for this test alone."""
+        command = ['tmux', '-f', '/dev/null', '-S', os.path.join(self.room, 'tmux'), *words]
+        env = {**self.env, 'TMPDIR': self.room, 'LC_ALL': 'C.UTF-8', 'PS1': '> '}
+        return subprocess.run(command, env=env, stdin=subprocess.DEVNULL, capture_output=True, text=True, timeout=60, check=True).stdout
+
+    def shown(self):
+        """All lines of the terminal, each as long as it was written."""
+        return self.tmux('capture-pane', '-p', '-J', '-S', '-')
+
+    def test_each_step_and_the_end(self):
+        self.tmux('new-session', '-d', '-x', '100', '-y', '40', 'sh')
+        self.addCleanup(self.tmux, 'kill-server')
+        self.tmux('send-keys', '-l', '%s %s demo; echo "status=$?"' % (shlex.quote(sys.executable), shlex.quote(where.OAUTH2)))
+        self.tmux('send-keys', 'Enter')
+        until = time.monotonic() + 120
+        while not re.search(r'(?m)^status=\d+ *$', self.shown()):
+            self.assertLess(time.monotonic(), until, self.shown())
+            time.sleep(0.2)
+        shown = self.shown()
+        self.assertEqual(re.findall(r'(?m)^(?:\d\. |\d steps).*\S', shown),
+                         ['1. client credentials: demo-token-1', '2. login in a browser: demo-token-2', '3. the kept token: demo-token-2',
+                          '4. the renewed token: demo-token-3', '5. sign-in on a device: demo-token-4', '5 steps, and the server is gone'])
+        self.assertEqual(re.findall(r'(?m)^\$ tools/oauth2 (\w+) ', shown), ['token', 'login', 'token', 'token', 'device'])
+        grants = ['client_credentials', 'authorization_code', 'refresh_token', *3 * ['urn%3Aietf%3Aparams%3Aoauth%3Agrant-type%3Adevice_code']]
+        self.assertEqual(re.findall(r'(?m)^> .*grant_type=([^&\s]+)', shown), grants)
+        self.assertRegex(shown, r'(?m)^status=0 *$')
+        self.assertEqual([it for it in os.listdir(self.room) if it.startswith('lifecrib-demo')], [])
 
 
 if __name__ == '__main__':
