@@ -1,17 +1,21 @@
 """The checks that need no proof, for tools/test: of the pages, of the tools, and of crates compiled without proofs."""
 import collections
 import os
+import shutil
 import subprocess
 import sys
+import tempfile
 import time
 from concurrent.futures import FIRST_COMPLETED, ThreadPoolExecutor, wait
 
+import merged
 import processes
 import program
 import repository
 
 NAMES, COSTS = os.path.join('docs', 'public-names.txt'), os.path.join('docs', 'GATE.md')
 RUNNING = {}  # of each process under way, what it is called and when it began
+ROOMS = set()  # temporary folders of what is under way
 EACH = 20  # seconds after which a line says what runs
 LIMIT = 60  # seconds that `rt try` gives a program
 NO_ANSWER = 6  # the status of `rt try` where a program gave none in time
@@ -19,6 +23,8 @@ NO_ANSWER = 6  # the status of `rt try` where a program gave none in time
 # A check: what it is called, the folder in which its command runs and what that reads on standard input, and a function that says by the
 # status, standard output and standard error why it failed, or gives None.
 Check = collections.namedtuple('Check', 'name folder command given fault')
+# Checks, each by its crate, of which one command shows those that pass: one of merged.Tests or merged.Programs makes it.
+Group = collections.namedtuple('Group', 'name checks made')
 
 
 class TimeLimit(str):
@@ -103,45 +109,81 @@ def first_difference(wanted, out):
     return 'line %d is %r, and not %r' % (number, other, one)
 
 
+def grouped(crates, check_of, made):
+    """The checks of crates: those that can be compiled as one in a group, and then the others."""
+    together = {it: check_of(it) for it in made.crates}
+    name = '%s of %d crates, compiled as one' % (made.name, len(together))
+    return [Group(name, together, made)] * bool(together) + [check_of(it) for it in crates if it not in together]
+
+
 def unproved():
     """Each program's stored run and each crate's tests; those of many crates first, since they take longest."""
     below = repository.below()
     crates = sorted(below, key=lambda it: -len(below[it]))
-    return [run_of(it) for it in crates if program.is_program(it)] + [tests_of(it) for it in crates if has_tests(it)]
+    programs, tested = [it for it in crates if program.is_program(it)], [it for it in crates if has_tests(it)]
+    return [*grouped(programs, run_of, merged.Programs(programs)), *grouped(tested, tests_of, merged.Tests(tested))]
+
+
+def ended(name, folder, command, given):
+    """Runs a command: its status, standard output and standard error. What it starts is no part of the terminal's group, so Ctrl-C comes
+    to this process alone, which then ends all of them."""
+    how = dict(stdin=subprocess.PIPE, stdout=subprocess.PIPE, stderr=subprocess.PIPE, start_new_session=True)
+    with subprocess.Popen(command, cwd=folder, **how) as run:
+        RUNNING[run] = (name, time.time())
+        out, err = run.communicate(given)
+        RUNNING.pop(run)
+    return run.returncode, out, err
 
 
 def fault_of(check):
-    """Runs a check: the seconds by the clock, and why it failed, or None. What it starts is no part of the terminal's group, so Ctrl-C
-    comes to this process alone, which then ends all of them."""
-    begun, how = time.time(), dict(stdin=subprocess.PIPE, stdout=subprocess.PIPE, stderr=subprocess.PIPE, start_new_session=True)
-    with subprocess.Popen(check.command, cwd=check.folder, **how) as run:
-        RUNNING[run] = (check.name, begun)
-        out, err = run.communicate(check.given)
-        RUNNING.pop(run)
-    return time.time() - begun, check.fault(run.returncode, out, err)
+    """Runs a check: the seconds by the clock, and why it failed, or None."""
+    begun = time.time()
+    fault = check.fault(*ended(check.name, check.folder, check.command, check.given))
+    return time.time() - begun, fault
+
+
+def passed_of(group):
+    """Runs the command of a group: the seconds by the clock, the crates that pass, and what it said last."""
+    begun, room = time.time(), tempfile.mkdtemp(prefix='lifecrib-')
+    ROOMS.add(room)
+    try:
+        status, out, err = ended(group.name, *group.made.command_in(room), b'')
+    finally:
+        shutil.rmtree(room, ignore_errors=True)
+        ROOMS.discard(room)
+    out, err = out.decode(errors='replace'), err.decode(errors='replace')
+    return time.time() - begun, group.made.passed(status, out, err), err.rstrip()
 
 
 def stop(number, _):
-    """Ends the checks under way, and all that they have started, as a signal asks."""
+    """Ends the checks under way, also those that have only just begun, and all that they have started, as a signal asks."""
     print('tools/test: stopped', file=sys.stderr, flush=True)
-    processes.end([it.pid for it in list(RUNNING)])
+    processes.end(processes.tree_of([os.getpid()])[1:])
+    for room in list(ROOMS):
+        shutil.rmtree(room, ignore_errors=True)
     os._exit(128 + number)
 
 
 def run(checks, lanes):
-    """Runs checks side by side and prints how each ended: how many passed and how many failed. A check that met its time limit is run again
-    alone, once the others have ended."""
-    shown = Shown(len(checks))
+    """Runs checks and groups of them side by side and prints how each check ended: how many passed and how many failed. What does not pass
+    in its group is run by itself. A check that met its time limit is run again alone, once the others have ended."""
+    shown = Shown(sum(len(it.checks) if isinstance(it, Group) else 1 for it in checks))
     with ThreadPoolExecutor(lanes) as pool:
-        pending, late = {pool.submit(fault_of, it): it for it in checks}, []
+        def begin(it):
+            return pool.submit(passed_of if isinstance(it, Group) else fault_of, it)
+        pending, late = {begin(it): it for it in checks}, []
         while pending:
             for future in wait(pending, EACH, FIRST_COMPLETED).done:
-                check, (seconds, fault) = pending.pop(future), future.result()
+                it = pending.pop(future)
+                if isinstance(it, Group):
+                    pending.update((begin(check), check) for check in shown.end_group(it, *future.result()))
+                    continue
+                seconds, fault = future.result()
                 if isinstance(fault, TimeLimit):
-                    late.append(check)
-                    print('%s (%.0f s): %s; it is run again alone' % (check.name, seconds, fault), flush=True)
+                    late.append(it)
+                    print('%s (%.0f s): %s; it is run again alone' % (it.name, seconds, fault), flush=True)
                 else:
-                    shown.end(check, seconds, fault)
+                    shown.end(it, seconds, fault)
             shown.under_way(RUNNING)
     for check in late:
         shown.end(check, *fault_of(check))
@@ -159,6 +201,15 @@ class Shown:
         self.done, self.failed, self.said = self.done + 1, self.failed + (fault is not None), time.time()
         end = 'passed' if fault is None else 'FAILED: ' + fault
         print('[%d of %d] %s (%.0f s): %s' % (self.done, self.number, check.name, seconds, end), flush=True)
+
+    def end_group(self, group, seconds, passed, said):
+        """Says how a group ended, and which checks of it passed: those that did not."""
+        rest = [check for crate, check in group.checks.items() if crate not in passed]
+        end = 'passed' if not rest else '%d passed, and %d are compiled alone\n%s' % (len(passed), len(rest), said)
+        print('%s (%.0f s): %s' % (group.name, seconds, end), flush=True)
+        for crate in passed:
+            self.end(group.checks[crate], seconds, None)
+        return rest
 
     def under_way(self, running):
         """Says what runs, and for how long, if nothing was said for a while."""
