@@ -5,6 +5,7 @@ import shutil
 import subprocess
 import sys
 import tempfile
+import threading
 import time
 from concurrent.futures import FIRST_COMPLETED, ThreadPoolExecutor, wait
 
@@ -15,7 +16,7 @@ import repository
 
 NAMES, COSTS = os.path.join('docs', 'public-names.txt'), os.path.join('docs', 'GATE.md')
 RUNNING = {}  # of each process under way, what it is called and when it began
-ROOMS = set()  # temporary folders of what is under way
+ROOMS, REMOVING = set(), threading.Lock()  # temporary folders of what is under way, which are removed one at a time
 EACH = 20  # seconds after which a line says what runs
 LIMIT = 60  # seconds that `rt try` gives a program
 NO_ANSWER = 6  # the status of `rt try` where a program gave none in time
@@ -149,10 +150,16 @@ def passed_of(group):
     try:
         status, out, err = ended(group.name, *group.made.command_in(room), b'')
     finally:
-        shutil.rmtree(room, ignore_errors=True)
-        ROOMS.discard(room)
+        remove(room)
     out, err = out.decode(errors='replace'), err.decode(errors='replace')
     return time.time() - begun, group.made.passed(status, out, err), err.rstrip()
+
+
+def remove(room):
+    """Removes a temporary folder."""
+    with REMOVING:
+        shutil.rmtree(room, ignore_errors=True)
+        ROOMS.discard(room)
 
 
 def stop(number, _):
@@ -160,7 +167,7 @@ def stop(number, _):
     print('tools/test: stopped', file=sys.stderr, flush=True)
     processes.end(processes.tree_of([os.getpid()])[1:])
     for room in list(ROOMS):
-        shutil.rmtree(room, ignore_errors=True)
+        remove(room)
     os._exit(128 + number)
 
 
