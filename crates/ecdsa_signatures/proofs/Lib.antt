@@ -3,6 +3,7 @@ pub mod Constants
 pub mod CurvePoints
 pub mod Forms
 pub mod JacobianSums
+pub mod KeyTexts
 pub mod LastComparison
 pub mod Points
 pub mod Primes

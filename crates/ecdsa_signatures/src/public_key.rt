@@ -1,8 +1,12 @@
 //! A public key, and the check of a signature by it.
 
-ghost use Rattle.std.specs.Prelude.{⊤, ◌≡◌, ◌+◌, ◌*◌, ◌%◌, ◌<◌, ◌≤◌, ◌↔◌, IsTrue, Some, length, take};
+ghost use Rattle.std.specs.Fmt.{DisplaysOnOk, WritesStyledOnOk};
+ghost use Rattle.std.specs.Fmt.{decimal, formatter_spec, spec_alternate, styled_decimal};
+ghost use Rattle.std.specs.Prelude.{⊤, ◌≡◌, ◌+◌, ◌*◌, ◌%◌, ◌<◌, ◌≤◌, ◌↔◌, ◌++◌};
+ghost use Rattle.std.specs.Prelude.{IsTrue, Some, false, length, take};
 ghost use Rattle.modular_arithmetic.specs.Octets.{number};
 ghost use Rattle.ecdsa_signatures.specs.Curve.{prime, order, coordinate_size};
+ghost use Rattle.ecdsa_signatures.specs.KeyText.{coordinate_text, curve_text, key_text};
 ghost use Rattle.ecdsa_signatures.specs.PublicKey.{PublicKey, key_of};
 ghost use Rattle.ecdsa_signatures.specs.Signature.{IsSignature, HasX, e_of, found_point};
 ghost use Rattle.ecdsa_signatures.specs.private.Coordinates.{value, point_of, IsReduced};
@@ -13,7 +17,7 @@ use crate::jacobian::{has_x, multiples};
 use crate::key_error::EcdsaKeyError;
 use crate::point::{AffinePoint, base_point, is_on_curve};
 use crate::scalar::{invert, is_in_range, times};
-use modular_arithmetic::number;
+use modular_arithmetic::{choose, number, write_octets};
 use sha2::{Digest, Sha256, Sha384};
 use std::alloc::AllocError;
 use std::fmt;
@@ -58,13 +62,52 @@ impl Clone for EcdsaPublicKey {
     }
 }
 
+// Writes the start of a key's debug text, with its curve.
+fn write_curve<W: fmt::Write>(f: &mut fmt::Formatter<W>, curve: EllipticCurve) -> fmt::Result
+    ensures { WritesStyledOnOk W.write_str_gives f.old result
+        (curve_text (spec_alternate (formatter_spec f.old)) curve) f.new }
+{
+    f.write_str(choose(
+        f.alternate(),
+        "EcdsaPublicKey {\n    curve: ",
+        "EcdsaPublicKey { curve: ",
+    ))?;
+    f.write_str(curve.name())
+}
+
+// Writes the octets of a coordinate after a label.
+fn write_coordinate<W: fmt::Write>(
+    f: &mut fmt::Formatter<W>,
+    curve: EllipticCurve,
+    label: &str,
+    octets: &[u8],
+) -> fmt::Result
+    requires { length octets.now ≡ coordinate_size curve }
+    ensures { WritesStyledOnOk W.write_str_gives f.old result
+        (label.now ++ coordinate_text (spec_alternate (formatter_spec f.old))
+        (styled_decimal (formatter_spec f.old)) curve (number octets.now)) f.new }
+{
+    f.write_str(label)?;
+    write_octets(f, octets)
+}
+
 impl fmt::Debug for EcdsaPublicKey {
-    fn fmt<W: fmt::Write>(&self, f: &mut fmt::Formatter<W>) -> fmt::Result {
-        f.debug_struct("EcdsaPublicKey")
-            .field("curve", &self.curve)
-            .field("x", &self.x())
-            .field("y", &self.y())
-            .finish()
+    ghost debug_output = { λ key. Some (key_text false decimal key) };
+
+    fn fmt<W: fmt::Write>(&self, f: &mut fmt::Formatter<W>) -> fmt::Result
+        ensures writes { DisplaysOnOk W.write_str_gives f.old result
+            (Some (key_text false decimal self.now)) f.new }
+        // Whatever options the formatter has, as under `{:#?}`.
+        ensures styled { WritesStyledOnOk W.write_str_gives f.old result
+            (key_text (spec_alternate (formatter_spec f.old))
+            (styled_decimal (formatter_spec f.old)) self.now) f.new }
+    {
+        let lines = f.alternate();
+        let curve = self.curve();
+        write_curve(f, curve)?;
+        write_coordinate(f, curve, choose(lines, ",\n    x: ", ", x: "), self.x())?;
+        write_coordinate(f, curve, choose(lines, ",\n    y: ", ", y: "), self.y())?;
+        f.write_str(choose(lines, ",\n}", " }"))
     }
 }
 

@@ -1,11 +1,9 @@
 -- The number that bytes hold.
-use Rattle.modular_arithmetic.proofs.OctetNumbers.{number_onto-nil, number_onto-append, number_onto-snoc, push_same, number_onto_same, number_onto-lt, take_more, weight_is, drop_carry, exact, number-lt, number_fits}
-use Rattle.std.proofs.Common.{◌≡◌, ℕ, zero, suc, ◌+◌, ◌-◌, ◌*◌, ◌/◌, ◌%◌, ◌^◌, ◌<◌, ◌≤◌, List, [], ◌∷◌, ◌++◌, length, replicate, take, drop, get_or, set, refl, sym, ap, ◌∙◌, arith, pow-suc, pow-add, mul_comm, mul-le-mul_right, add-one, length-append, length-drop, take-append-drop, append_assoc, mod-eq_of_lt, lit<, inl, inr}
-use Rattle.std.proofs.Math.Arith.{mod-mul}
+use Rattle.modular_arithmetic.proofs.OctetNumbers.{number_onto-append, number_onto_same, number_onto-lt, take_more, number-lt, AreOctets-cons, power_some, octets_are}
+use Rattle.std.proofs.Common.{◌≡◌, ℕ, zero, suc, ◌+◌, ◌-◌, ◌*◌, ◌/◌, ◌%◌, ◌^◌, ◌<◌, ◌≤◌, List, [], ◌∷◌, ◌++◌, length, replicate, take, drop, get_or, set, refl, sym, ap, ◌∙◌, arith, pow-suc, pow-add, mul-le-mul_right, add-one, length-append, length-drop, take-append-drop, append_assoc, lit<, inl, inr}
 use Rattle.std.proofs.Math.Nat.{pow-zero, pow-le-pow_right}
 use Rattle.std.proofs.lemmas.Bool.{cases_lt}
 use Rattle.std.proofs.lemmas.List.{length-replicate, length-take-le, get_or-drop, get_or_at, ext_get_or, take_all, take_at}
-use Rattle.std.specs.Int.{byte_at}
 use Rattle.modular_arithmetic.specs.Octets.{number_onto, number, AreOctets}
 use Rattle.rsa_signatures.specs.Octets.{octets_of}
 use Rattle.rsa_signatures.specs.Octets.{HasBits, HasOctets}
@@ -22,13 +20,6 @@ replicate-suc n x = rw (add-one n) (replicate-more n x)
 
 pub push_more : (a v : ℕ) (xs ys : List ℕ) (w : ℕ) → a % w ≡ number xs % w → v % w ≡ number_onto a ys % w → v % w ≡ number (xs ++ ys) % w
 push_more a v xs ys w e f = f ∙ number_onto_same a (number xs) ys w e ∙ ap (λ t. t % w) (sym (number_onto-append 0 xs ys))
-
-pub AreOctets-nil : AreOctets []
-AreOctets-nil i = lit< tt
-
-pub AreOctets-cons : (x : ℕ) (xs : List ℕ) → x < 256 → AreOctets xs → AreOctets (x ∷ xs)
-AreOctets-cons x xs p h zero = p
-AreOctets-cons x xs p h (suc i) = h i
 
 pub AreOctets-append : (xs ys : List ℕ) → AreOctets xs → AreOctets ys → AreOctets (xs ++ ys)
 AreOctets-append [] ys h k i = k i
@@ -145,63 +136,12 @@ padding_at xs n l e =
     let front : take n xs ≡ replicate n 0 = ap (take n) e ∙ take_at (replicate n 0) (1 ∷ []) n count in
     (λ k h. zeros_at (take n xs) n k front, ap (λ t. get_or t n 0) e ∙ get_or_at (replicate n 0) 1 [] 0 n count)
 
-power_some : (k : ℕ) → 0 < 256 ^ k
-power_some k = pow-le-pow_right {n = 256} (omega arith) {i = 0} {j = k} (omega arith)
-
 pub zeros_of_number : (xs : List ℕ) → number xs ≡ 0 → xs ≡ replicate (length xs) 0
 zeros_of_number [] e = refl
 zeros_of_number (zero ∷ xs) e = ap (λ t. 0 ∷ t) (zeros_of_number xs (sym (number-zero xs) ∙ e))
 zeros_of_number (suc x ∷ xs) e =
     let more : 1 * 256 ^ length xs ≤ suc x * 256 ^ length xs = mul-le-mul_right (256 ^ length xs) (omega arith) in
     absurd (omega (arith, number-least (suc x) xs, more, power_some (length xs), e))
-
--- one more octet in front of the low k octets
-byte_on : (k n high : ℕ) → (high * 256 + byte_at k n) * 256 ^ k + n % 256 ^ k ≡ high * 256 ^ suc k + n % 256 ^ suc k
-byte_on zero n high = omega arith
-byte_on (suc k) n high =
-    let unit = 256 ^ suc k in
-    let wider : 256 ^ suc (suc k) ≡ 256 * unit = pow-suc 256 (suc k) ∙ mul_comm unit 256 in
-    rw (wider, mod-mul n {m = 256} {c = unit} (omega arith) (power_some (suc k))) (omega arith)
-
-number_onto-octets_of : (k n high : ℕ) → number_onto high (octets_of k n) ≡ high * 256 ^ k + n % 256 ^ k
-unfolding number_onto
-number_onto-octets_of zero n high = omega arith
-number_onto-octets_of (suc k) n high =
-    let turn : 256 * high + byte_at k n ≡ high * 256 + byte_at k n = omega arith in
-    number_onto-octets_of k n (256 * high + byte_at k n) ∙ ap (λ t. t * 256 ^ k + n % 256 ^ k) turn ∙ byte_on k n high
-
-byte_at-lt : (k n : ℕ) → byte_at k n < 256
-byte_at-lt zero n = omega arith
-byte_at-lt (suc k) n = omega arith
-
-octets_of-octets : (k n : ℕ) → AreOctets (octets_of k n)
-octets_of-octets zero n = AreOctets-nil
-octets_of-octets (suc k) n = AreOctets-cons (byte_at k n) (octets_of k n) (byte_at-lt k n) (octets_of-octets k n)
-
-length-octets_of : (k n : ℕ) → length (octets_of k n) ≡ k
-length-octets_of zero n = refl
-length-octets_of (suc k) n = ap (λ t. suc t) (length-octets_of k n)
-
-same_octets : (n m : ℕ) (xs ys : List ℕ) → length xs ≡ length ys → AreOctets xs → AreOctets ys → number_onto n xs ≡ number_onto m ys → (n ≡ m) × (xs ≡ ys)
-unfolding number_onto
-same_octets n m [] [] l h k e = (e, refl)
-same_octets n m [] (y ∷ ys) l h k e = absurd (omega arith)
-same_octets n m (x ∷ xs) [] l h k e = absurd (omega arith)
-same_octets n m (x ∷ xs) (y ∷ ys) l h k e =
-    let rest = same_octets (256 * n + x) (256 * m + y) xs ys (omega arith) (λ i. h (suc i)) (λ i. k (suc i)) e in
-    let x-lt : x < 256 = h 0 in
-    let y-lt : y < 256 = k 0 in
-    let both : 256 * n + x ≡ 256 * m + y = rest.0 in
-    let top : n ≡ m = omega arith in
-    let low : x ≡ y = omega arith in
-    (top, λ j. low j ∷ rest.1 j)
-
--- octets are those of their number
-octets_are : (xs : List ℕ) (size m : ℕ) → AreOctets xs → length xs ≡ size → number xs ≡ m → xs ≡ octets_of size m
-octets_are xs size m h l e =
-    let fits : m < 256 ^ size = omega (arith, number-lt xs h, ap (λ t. 256 ^ t) l) in
-    let back : number (octets_of size m) ≡ m = omega (arith, number_onto-octets_of size m 0, mod-eq_of_lt fits) in
-    (same_octets 0 0 xs (octets_of size m) (l ∙ sym (length-octets_of size m)) h (octets_of-octets size m) (e ∙ sym back)).1
 
 small_product : (a w r m : ℕ) → m ≡ a * w + r → m < w → a ≡ 0
 small_product zero w r m e l = refl

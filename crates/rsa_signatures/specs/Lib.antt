@@ -1,4 +1,5 @@
 pub mod ErrorTexts
+pub mod KeyText
 pub mod Octets
 pub mod Pkcs1
 pub mod Pss

@@ -1,5 +1,7 @@
 //! A public key, and the check of a signature with it.
 
+ghost use Rattle.std.specs.Fmt.{DisplaysOnOk, WritesStyledOnOk};
+ghost use Rattle.std.specs.Fmt.{decimal, formatter_spec, spec_alternate, styled_decimal};
 ghost use Rattle.std.specs.Prelude.{
   ⊤,
   ◌≡◌,
@@ -15,11 +17,14 @@ ghost use Rattle.std.specs.Prelude.{
   take,
   IsTrue,
   MatchOption,
+  Some,
+  false,
   nat_eq,
   nat_lt,
   nat_le,
 };
 ghost use Rattle.modular_arithmetic.specs.Octets.{number};
+ghost use Rattle.rsa_signatures.specs.KeyText.{key_text, modulus_text};
 ghost use Rattle.rsa_signatures.specs.Octets.{HasBits, HasOctets};
 ghost use Rattle.rsa_signatures.specs.PublicKey.{PublicKey, key_of, least_modulus, modulus_limit};
 ghost use Rattle.rsa_signatures.specs.Signature.{IsSignature};
@@ -28,7 +33,9 @@ ghost use Rattle.rsa_signatures.specs.private.KeyFields.{IsKey};
 use crate::key_error::RsaKeyError;
 use crate::octets::{LIMBS, OCTETS, with_zeros};
 use crate::signature_scheme::SignatureScheme;
-use modular_arithmetic::{is_less, limb, negated_inverse, number, power, weight_square};
+use modular_arithmetic::{
+    choose, is_less, limb, negated_inverse, number, power, weight_square, write_octets,
+};
 use std::alloc::AllocError;
 use std::fmt;
 use std::marker::Model;
@@ -76,12 +83,37 @@ impl Clone for RsaPublicKey {
     }
 }
 
+// Writes the start of a key's debug text, with the octets of its modulus.
+fn write_modulus<W: fmt::Write>(f: &mut fmt::Formatter<W>, octets: &[u8]) -> fmt::Result
+    requires { 0 < slice_index octets.now 0 }
+    ensures { WritesStyledOnOk W.write_str_gives f.old result
+        (modulus_text (spec_alternate (formatter_spec f.old))
+        (styled_decimal (formatter_spec f.old)) (number octets.now)) f.new }
+{
+    f.write_str(choose(
+        f.alternate(),
+        "RsaPublicKey {\n    modulus: ",
+        "RsaPublicKey { modulus: ",
+    ))?;
+    write_octets(f, octets)
+}
+
 impl fmt::Debug for RsaPublicKey {
-    fn fmt<W: fmt::Write>(&self, f: &mut fmt::Formatter<W>) -> fmt::Result {
-        f.debug_struct("RsaPublicKey")
-            .field("modulus", &self.modulus())
-            .field("exponent", &self.exponent)
-            .finish()
+    ghost debug_output = { λ key. Some (key_text false decimal key) };
+
+    fn fmt<W: fmt::Write>(&self, f: &mut fmt::Formatter<W>) -> fmt::Result
+        ensures writes { DisplaysOnOk W.write_str_gives f.old result
+            (Some (key_text false decimal self.now)) f.new }
+        // Whatever options the formatter has, as under `{:#?}`.
+        ensures styled { WritesStyledOnOk W.write_str_gives f.old result
+            (key_text (spec_alternate (formatter_spec f.old))
+            (styled_decimal (formatter_spec f.old)) self.now) f.new }
+    {
+        let lines = f.alternate();
+        write_modulus(f, self.modulus())?;
+        f.write_str(choose(lines, ",\n    exponent: ", ", exponent: "))?;
+        fmt::Display::fmt(&self.exponent(), f)?;
+        f.write_str(choose(lines, ",\n}", " }"))
     }
 }
 
