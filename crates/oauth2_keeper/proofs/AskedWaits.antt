@@ -8,9 +8,9 @@ use Rattle.oauth2_wire.specs.declared.error.RequestTokenError.{RequestTokenError
 use Rattle.oauth2_wire.specs.declared.error.RequestTokenError.TheVariants as token
 use Rattle.oauth2_wire.specs.Request.{RequestView}
 use Rattle.oauth2_keeper.specs.declared.patient_keeper.PatientError.{PatientError}
-use Rattle.oauth2_keeper.specs.declared.patient_keeper.PatientError.TheVariants.{Request, Waits}
+use Rattle.oauth2_keeper.specs.declared.patient_keeper.PatientError.TheVariants.{Request, Waits, OtherTokenType}
 use Rattle.oauth2_keeper.specs.Keeper.{Given}
-use Rattle.oauth2_keeper.specs.Patience.{Patient, PatientCall, IsWaitBounded, wait_asked_by, wait_in_force, failed_call, counts, PatientCalls, EachAskedWaitIsHeeded, EachWaitIsBounded}
+use Rattle.oauth2_keeper.specs.Patience.{Patient, PatientCall, IsWaitBounded, wait_asked_by, wait_in_force, failed_call, counts, without_other_type, UsableCalls, EachAskedWaitIsHeeded, EachWaitIsBounded}
 use Rattle.oauth2_keeper.proofs.Patience.{waited_for}
 
 -- ---- a wait that is heeded
@@ -52,22 +52,24 @@ module _ {D T RE C : Type 0} (asks : ReplyRule → (List ℕ → RequestView →
       ap (wait_in_force patient.least_wait patient.most_asked_wait) (sym asks_for) ∙ ap (λ (p : Patient). p.wait) (sym is)
 
   pub heeded : EachAskedWaitIsHeeded asks told asked
-  heeded patient failed kept before middle after moment error wait calls (free, made, is) asks_for early run =
+  heeded patient failed kept before middle after moment error wait calls made asks_for early run =
       let all = all_longer patient.least_wait (min patient.most_asked_wait wait) moment calls early in
-      let in_time = subst (λ n. All (λ (call : PatientCall). IsTrue (int_le moment call.now && int_lt call.now (moment +ℤ pos n))) calls) (in_force patient failed moment error wait is asks_for) all in
-      waited_for asks told asked patient failed kept before middle after moment (token.Request error) calls (free, made, is) refl in_time run
+      let in_time = subst (λ n. All (λ (call : PatientCall). IsTrue (int_le moment call.now && int_lt call.now (moment +ℤ pos n))) calls) (in_force (without_other_type patient) failed moment error wait made.2 asks_for) all in
+      waited_for asks told asked patient failed kept before middle after moment (token.Request error) calls made refl in_time run
 
-  one_bounded : (patient kept : Patient) (now : ℤ) (before after : C) (result : Result Unit (PatientError RE T)) → PatientCalls asks told asked patient now before result after kept
+  one_bounded : (patient kept : Patient) (now : ℤ) (before after : C) (result : Result Unit (PatientError RE T)) → UsableCalls asks told asked patient now before result after kept
       → IsWaitBounded patient → StaysBounded patient kept
-  one_bounded patient kept now before after (Ok done) (inl (free, made, is)) within = subst (StaysBounded patient) (sym is) (refl, refl, within)
+  one_bounded patient kept now before after (Ok done) (inl (free, made, usable, is)) within = subst (StaysBounded patient) (sym is) (refl, refl, within)
   one_bounded patient kept now before after (Ok done) (inr (held, same, is)) within = subst (StaysBounded patient) (sym is) (refl, refl, within)
   one_bounded patient kept now before after (Err (Request error)) (free, made, is) within =
       subst (StaysBounded patient) (sym is) (refl, refl, bounded_if (counts error) patient.least_wait patient.most_asked_wait patient.wait (wait_asked_by asked error) within)
+  one_bounded patient kept now before after (Err OtherTokenType) (free, (got, made, other, is)) within =
+      subst (StaysBounded patient) (sym is) (refl, refl, force_bounded patient.least_wait patient.most_asked_wait None)
   one_bounded patient kept now before after (Err (Waits until)) (held, told_end, same, is) within = subst (StaysBounded patient) (sym is) (refl, refl, within)
 
   pub bounded : EachWaitIsBounded asks told asked
   bounded patient kept before after [] (same, is) within = subst (StaysBounded patient) (sym is) (refl, refl, within)
   bounded patient kept before after (call ∷ calls) (flag, (result, middle, next, made, rest)) within =
-      let first = one_bounded patient next call.now before middle result made within in
+      let first = one_bounded (without_other_type patient) next call.now before middle result made within in
       let later = bounded next kept middle after calls rest first.2 in
       (later.0 ∙ first.0, later.1 ∙ first.1, later.2)

@@ -3,6 +3,7 @@ use Rattle.std.specs.Prelude.{◌≡◌, ◌⊎◌, ℕ, ℤ, pos, ◌+ℤ◌, �
 use Rattle.std.specs.Option.{option_or}
 use Rattle.std.specs.declared.alloc.Global.{Global}
 use Rattle.url.specs.Parts.{serialize}
+use Rattle.oauth2_json.specs.Writing.{Writing}
 use Rattle.oauth2_urls.specs.Addressed.{Addressed}
 use Rattle.oauth2_wire.specs.declared.content_type.ReplyRule.{ReplyRule}
 use Rattle.oauth2_wire.specs.declared.error.RequestTokenError.{RequestTokenError}
@@ -16,11 +17,13 @@ use Rattle.oauth2_requests.specs.ClientCredentials.{client_credentials_pairs}
 use Rattle.oauth2_requests.specs.Refresh.{refresh_pairs}
 use Rattle.oauth2.specs.NewRequest.{base_of}
 use Rattle.oauth2.specs.Settings.{Settings}
+use Rattle.oauth2_keeper.specs.TokenTypes.{type_in}
 
--- a token that was accepted: its text, the moment of the call that got it, in nanoseconds since
--- 1970, and its lifetime in nanoseconds
+-- a token that was accepted: its text, the text of its type, the moment of the call that got it, in
+-- nanoseconds since 1970, and its lifetime in nanoseconds
 pub record AcceptedToken : Type 0 where
   pub access_token : List ℕ
+  pub token_type : List ℕ
   pub accepted_at : ℤ
   pub lifetime : ℕ
 
@@ -82,18 +85,23 @@ starting_from keeper token refresh_token = record keeper {
   refresh_token = refresh_token;
 }
 
--- what a keeper uses of a reply: the access token, and its lifetime in nanoseconds and a refresh
--- token if the reply has them (RFC 6749, 5.1)
+-- what a keeper uses of a reply: the access token, the text of its type, and its lifetime in
+-- nanoseconds and a refresh token if the reply has them (RFC 6749, 5.1)
 pub record Given : Type 0 where
   pub access_token : List ℕ
+  pub token_type : List ℕ
   pub lifetime : Option ℕ
   pub refresh_token : Option (List ℕ)
 
 -- the token of a reply that was accepted at `now`; its lifetime is the keeper's default one if the
 -- reply has none
 abbrev pub accepted_token : ℕ → ℤ → Given → AcceptedToken
-accepted_token default_lifetime now given =
-    record { access_token = given.access_token; accepted_at = now; lifetime = unwrap_or given.lifetime default_lifetime }
+accepted_token default_lifetime now given = record {
+  access_token = given.access_token;
+  token_type = given.token_type;
+  accepted_at = now;
+  lifetime = unwrap_or given.lifetime default_lifetime;
+}
 
 -- what is kept after a reply was accepted at `now`: its token, and its refresh token in place of
 -- the old one if it has one (RFC 6749, 6)
@@ -181,8 +189,13 @@ module _ {D T RE C : Type 0} (asks : ReplyRule → (List ℕ → RequestView →
         IsSomeAnd slot (λ error. KeeperCalls keeper now before (Err error) after kept)
         × (kept ≡ keeper)
 
--- what a keeper uses of a token response, by the functions that read its parts
-abbrev pub given_by : {D : Type 0} → (D → List ℕ) → (D → Option ℕ) → (D → Option (List ℕ)) → D
-    → Given
-given_by access_token lifetime refresh_token reply =
-    record { access_token = access_token reply; lifetime = lifetime reply; refresh_token = refresh_token reply }
+-- what a keeper uses of a token response, by what a token type is written as and the functions that
+-- read the response's parts
+abbrev pub given_by : {D K : Type 0} → (K → Writing) → (D → List ℕ) → (D → K) → (D → Option ℕ)
+    → (D → Option (List ℕ)) → D → Given
+given_by writing access_token token_type lifetime refresh_token reply = record {
+  access_token = access_token reply;
+  token_type = type_in writing token_type reply;
+  lifetime = lifetime reply;
+  refresh_token = refresh_token reply;
+}

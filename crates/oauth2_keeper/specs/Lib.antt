@@ -4,4 +4,5 @@ pub mod Lends
 pub mod Patience
 pub mod Runs
 pub mod Sources
+pub mod TokenTypes
 pub mod private

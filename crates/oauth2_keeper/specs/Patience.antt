@@ -9,22 +9,39 @@ use Rattle.oauth2_wire.specs.Once.{not_http_text}
 use Rattle.oauth2_wire.specs.Request.{HttpRequest, RequestView}
 use Rattle.oauth2_wire.specs.Reply.{HttpResponse}
 use Rattle.oauth2_keeper.specs.declared.patient_keeper.PatientError.{PatientError}
-use Rattle.oauth2_keeper.specs.declared.patient_keeper.PatientError.TheVariants.{Request, Waits}
-use Rattle.oauth2_keeper.specs.Keeper.{Keeper, Given, is_good, is_good_if_any, KeeperCalls, Renews}
+use Rattle.oauth2_keeper.specs.declared.patient_keeper.PatientError.TheVariants.{Request, Waits, OtherTokenType}
+use Rattle.oauth2_keeper.specs.Keeper.{AcceptedToken, Keeper, Given, is_good, is_good_if_any, kept_after, IsOutcome, KeeperCalls, Renews}
 use Rattle.oauth2_keeper.specs.Runs.{Call, Runs}
+use Rattle.oauth2_keeper.specs.TokenTypes.{is_understood}
 
--- a keeper; how long it waits if the server asks for no longer wait, and the greatest wait that a
+-- a keeper; the types of tokens that its caller can use, `None` if any; how long it waits if the server asks for no longer wait, and the greatest wait that a
 -- server may ask for; the wait in force, after its last failed request; whether it hands out its
 -- token during the wait to the end of its lifetime; and the time from which it waits, in
 -- nanoseconds since 1970: that of its last failed request, if none was accepted since, or an
 -- earlier one at which a call was held back. Waits are in nanoseconds.
 pub record Patient : Type 0 where
   pub keeper : Keeper
+  pub token_types : Option (List (List ℕ))
   pub least_wait : ℕ
   pub most_asked_wait : ℕ
   pub wait : ℕ
   pub until_end : Bool
   pub failed_at : Option ℤ
+
+-- whether the caller can use the kept token, if there is one (RFC 6749, 7.1)
+abbrev pub is_usable_if_any : Option (List (List ℕ)) → Option AcceptedToken → Bool
+is_usable_if_any token_types None = true
+is_usable_if_any token_types (Some token) = is_understood token_types token.token_type
+
+-- a keeper without a token that the caller can't use
+abbrev pub usable_part : Option (List (List ℕ)) → Keeper → Keeper
+usable_part token_types keeper =
+    if is_usable_if_any token_types keeper.token then keeper else record keeper { token = None }
+
+-- the same of a patient keeper
+abbrev pub without_other_type : Patient → Patient
+without_other_type patient =
+    record patient { keeper = usable_part patient.token_types patient.keeper }
 
 -- the time from which a call waits: that of the failed request, or the call's own if that is
 -- earlier, since the clock was set back
@@ -86,6 +103,21 @@ failed_call asked patient now error = record patient {
   failed_at = if counts error then Some now else patient.failed_at;
 }
 
+-- what is kept after the reply to a request at `now` had a token of another type: that is
+-- forgotten, and the wait begins
+abbrev pub other_type_call : Patient → ℤ → Keeper → Patient
+other_type_call patient now kept = record patient {
+  keeper = record kept { token = None };
+  wait = patient.least_wait;
+  failed_at = Some now;
+}
+
+-- what is left of a keeper by a call with this error: all of it, unless a token of another type was
+-- got
+abbrev pub IsLeftBy : {RE T : Type 0} → PatientError RE T → Keeper → Keeper → Type 0
+IsLeftBy OtherTokenType before after = after.token ≡ None
+IsLeftBy error before after = after ≡ before
+
 -- what is kept after a call at `now` that is held back: the time from which it waits
 abbrev pub held_back : Patient → ℤ → Patient
 held_back patient now = record patient { failed_at = option_map (waits_from now) patient.failed_at }
@@ -117,21 +149,32 @@ free_moments (call ∷ calls) =
 
 -- `asked` is the wait in nanoseconds that an error of the HTTP client says the server asks for
 module _ {D T RE C : Type 0} (asks : ReplyRule → (List ℕ → RequestView → Type 0) → List ℕ → C → Result D (RequestTokenError RE T) → C → Type 0) (told : D → Given) (asked : RE → Option ℕ) where
-  -- a call at `now`. If it is not held back, it is a call of the keeper. If it is held back, the
-  -- HTTP client is not called: the kept token is used if it lasts, and else the end of the wait is
-  -- returned.
-  abbrev pub PatientCalls : Patient → ℤ → C → Result Unit (PatientError RE T) → C → Patient → Type 0
-  PatientCalls patient now before (Ok done) after kept =
-      ((is_held_back patient now ≡ false) × KeeperCalls asks told patient.keeper now before (Ok tt) after kept.keeper × (kept ≡ after_call patient now kept.keeper))
+  -- a call at `now` of a keeper without a token of another type. If it is not held back, it is a
+  -- call of the keeper, and if its token is of another type, that is forgotten. If it is held back,
+  -- the HTTP client is not called: the kept token is used if it lasts, and else the end of the wait
+  -- is returned.
+  abbrev pub UsableCalls : Patient → ℤ → C → Result Unit (PatientError RE T) → C → Patient → Type 0
+  UsableCalls patient now before (Ok done) after kept =
+      ((is_held_back patient now ≡ false) × KeeperCalls asks told patient.keeper now before (Ok tt) after kept.keeper
+      × IsTrue (is_usable_if_any patient.token_types kept.keeper.token) × (kept ≡ after_call patient now kept.keeper))
       ⊎ (IsTrue (is_held_back patient now && lasts patient now) × (after ≡ before) × (kept ≡ held_back patient now))
-  PatientCalls patient now before (Err (Request error)) after kept =
+  UsableCalls patient now before (Err OtherTokenType) after kept =
+      (is_held_back patient now ≡ false)
+      × ((got : Keeper) × KeeperCalls asks told patient.keeper now before (Ok tt) after got
+      × (is_usable_if_any patient.token_types got.token ≡ false) × (kept ≡ other_type_call patient now got))
+  UsableCalls patient now before (Err (Request error)) after kept =
       (is_held_back patient now ≡ false)
       × KeeperCalls asks told patient.keeper now before (Err error) after patient.keeper
       × (kept ≡ failed_call asked patient now error)
-  PatientCalls patient now before (Err (Waits until)) after kept =
+  UsableCalls patient now before (Err (Waits until)) after kept =
       IsTrue (is_held_back patient now && not (lasts patient now))
       × IsSomeAnd kept.failed_at (λ from. IsUntil (from +ℤ pos kept.wait) until)
       × (after ≡ before) × (kept ≡ held_back patient now)
+
+  -- a call at `now`, before which a kept token of another type is forgotten
+  abbrev pub PatientCalls : Patient → ℤ → C → Result Unit (PatientError RE T) → C → Patient → Type 0
+  PatientCalls patient now before result after kept =
+      UsableCalls (without_other_type patient) now before result after kept
 
   -- a call at `now` whose value is one that `Gives` allows for the text of the kept token
   abbrev pub PatientAnswers : {A : Type 0} → (List ℕ → A → Type 0) → Patient → ℤ → C
@@ -146,15 +189,38 @@ module _ {D T RE C : Type 0} (asks : ReplyRule → (List ℕ → RequestView →
   abbrev pub PatientRuns : Patient → C → List PatientCall → C → Patient → Type 0
   PatientRuns patient before [] after kept = (after ≡ before) × (kept ≡ patient)
   PatientRuns patient before (call ∷ calls) after kept =
-      (call.held ≡ is_held_back patient call.now)
+      (call.held ≡ is_held_back (without_other_type patient) call.now)
       × ((result : Result Unit (PatientError RE T)) × (middle : C) × (next : Patient)
       × PatientCalls patient call.now before result middle next × PatientRuns next middle calls after kept)
 
-  -- the calls that are not held back are calls of the keeper at the same times, in order
+  -- calls of a keeper, one after another, after each of which a token of another type is forgotten
+  abbrev pub UsableRuns : Option (List (List ℕ)) → Keeper → C → List Call → C → Keeper → Type 0
+  UsableRuns token_types keeper before [] after kept = (after ≡ before) × (kept ≡ keeper)
+  UsableRuns token_types keeper before (call ∷ calls) after kept =
+      (result : Result Unit (RequestTokenError RE T)) × (middle : C)
+      × IsOutcome asks told keeper call.now before result middle call.outcome
+      × UsableRuns token_types (usable_part token_types (kept_after keeper call.now call.outcome)) middle calls after kept
+
+  -- the calls that are not held back are calls of the keeper at the same times, in order; a token
+  -- of another type is forgotten before the first and after each
   abbrev pub EachPatientRunIsARun : Type 0
   EachPatientRunIsARun =
       (patient kept : Patient) (before after : C) (calls : List PatientCall) → PatientRuns patient before calls after kept
+      → (own : List Call) × (map (λ call. call.now) own ≡ free_moments calls)
+      × UsableRuns patient.token_types (without_other_type patient).keeper before own after (without_other_type kept).keeper
+
+  -- for a caller that can use any type, they are the calls of a keeper, which forgets nothing
+  abbrev pub EachRunOfAnyTypeIsARun : Type 0
+  EachRunOfAnyTypeIsARun =
+      (patient kept : Patient) (before after : C) (calls : List PatientCall) → PatientRuns patient before calls after kept → patient.token_types ≡ None
       → (own : List Call) × (map (λ call. call.now) own ≡ free_moments calls) × Runs asks told patient.keeper before own after kept.keeper
+
+  -- after any calls, a call without an error leaves a token that the caller can use
+  abbrev pub EachTokenIsUsable : Type 0
+  EachTokenIsUsable =
+      (patient later kept : Patient) (before middle after : C) (calls : List PatientCall) (now : ℤ) → PatientRuns patient before calls middle later
+      → PatientCalls later now middle (Ok tt) after kept
+      → IsSomeAnd kept.keeper.token (λ token. IsTrue (is_understood patient.token_types token.token_type))
 
   -- calls change neither of these bounds, and after them the wait in force is within them
   abbrev pub EachWaitIsBounded : Type 0
@@ -169,6 +235,16 @@ module _ {D T RE C : Type 0} (asks : ReplyRule → (List ℕ → RequestView →
       (patient failed kept : Patient) (before middle after : C) (moment : ℤ) (error : RequestTokenError RE T) (calls : List PatientCall)
       → PatientCalls patient moment before (Err (Request error)) middle failed
       → IsTrue (counts error)
+      → All (λ call. IsTrue (int_le moment call.now && int_lt call.now (moment +ℤ pos failed.wait)))
+      calls
+      → PatientRuns failed middle calls after kept
+      → (after ≡ middle) × (kept ≡ failed)
+
+  -- the same after a token of another type
+  abbrev pub EachOtherTypeIsWaitedFor : Type 0
+  EachOtherTypeIsWaitedFor =
+      (patient failed kept : Patient) (before middle after : C) (moment : ℤ) (calls : List PatientCall)
+      → PatientCalls patient moment before (Err OtherTokenType) middle failed
       → All (λ call. IsTrue (int_le moment call.now && int_lt call.now (moment +ℤ pos failed.wait)))
       calls
       → PatientRuns failed middle calls after kept

@@ -1,5 +1,5 @@
 -- The tokens that a keeper keeps, by where their texts are.
-use Rattle.std.specs.Prelude.{ℕ, List, Option, Some, None}
+use Rattle.std.specs.Prelude.{ℕ, List, Option, Some, None, string_bytes}
 use Rattle.oauth2_keeper.specs.Keeper.{AcceptedToken}
 use Rattle.oauth2_keeper.specs.declared.kept_token.AccessSource.{AccessSource}
 use Rattle.oauth2_keeper.specs.declared.kept_token.AccessSource.TheVariants as access
@@ -18,13 +18,18 @@ pub record Tokens : Type 0 where
 
 -- the text of an access token, where `text` is that in a reply
 abbrev pub access_text : {D : Type 0} → (D → List ℕ) → AccessSource D → List ℕ
-access_text text (access.Stored token) = token
+access_text text (access.Stored token token_type) = token
 access_text text (access.Reply reply) = text reply
+
+-- the text of its type, where `text` is that in a reply
+abbrev pub source_type : {D : Type 0} → (D → List ℕ) → AccessSource D → List ℕ
+source_type text (access.Stored token token_type) = string_bytes token_type
+source_type text (access.Reply reply) = text reply
 
 -- the refresh token in the reply that has the access token
 abbrev pub refresh_text_in : {D : Type 0} → (D → Option (List ℕ)) → AccessSource D
     → Option (List ℕ)
-refresh_text_in text (access.Stored token) = None
+refresh_text_in text (access.Stored token token_type) = None
 refresh_text_in text (access.Reply reply) = text reply
 
 -- the refresh token of the held token, if one is held

@@ -7,6 +7,7 @@ ghost use Rattle.oauth2_keeper.specs.Keeper.{is_good_at, good_until_of};
 ghost use Rattle.oauth2_keeper.specs.Sources.{refresh_text};
 
 use crate::refresh_source::RefreshSource;
+use crate::token_types::{NamedTokenType, name_of};
 use jiff::Timestamp;
 use oauth2::TokenResponse;
 use oauth2_times::nanosecond_after;
@@ -14,12 +15,12 @@ use oauth2_types::{AccessToken, RefreshToken};
 use std::marker::Model;
 use std::time::Duration;
 
-// Where the text of a kept access token is.
+// Where the texts of a kept access token and of its type are.
 #[derive(Drop)]
 pub(crate) enum AccessSource<TR> {
-    // It was stored, and has no reply.
-    Stored(AccessToken),
-    // It is in this reply.
+    // They were stored, and have no reply.
+    Stored(AccessToken, String),
+    // They are in this reply.
     Reply(TR),
 }
 
@@ -52,13 +53,15 @@ where
     TR: TokenResponse + Drop,
 {
     ghost use Rattle.std.specs.Duration.{as_nanos};
-    ghost use Rattle.oauth2_keeper.specs.Sources.{Held, access_text, refresh_text_in};
+    ghost use Rattle.oauth2_keeper.specs.Sources.{Held, access_text, source_type, refresh_text_in};
+    ghost use Rattle.oauth2_keeper.specs.TokenTypes.{type_in};
 
     ghost Value = { Held };
 
     ghost view = { λ k. record {
       token = record {
         access_token = access_text TR.access_token k.source;
+        token_type = source_type (type_in TR.TokenType.writing TR.token_type) k.source;
         accepted_at = k.accepted_at.nanosecond;
         lifetime = as_nanos k.lifetime;
       };
@@ -75,7 +78,7 @@ where
         ensures { result.now ≡ self.now.token.access_token }
     {
         match &self.source {
-            AccessSource::Stored(access_token) => access_token,
+            AccessSource::Stored(access_token, _) => access_token,
             AccessSource::Reply(reply) => reply.access_token(),
         }
     }
@@ -85,7 +88,7 @@ where
         ensures { option_copied result ≡ self.now.refresh_token }
     {
         match &self.source {
-            AccessSource::Stored(_) => None,
+            AccessSource::Stored(_, _) => None,
             AccessSource::Reply(reply) => reply.refresh_token(),
         }
     }
@@ -100,7 +103,7 @@ where
             lifetime: _,
         } = self;
         match source {
-            AccessSource::Stored(_) => RefreshSource::Absent,
+            AccessSource::Stored(_, _) => RefreshSource::Absent,
             AccessSource::Reply(reply) => RefreshSource::Earlier(reply),
         }
     }
@@ -119,6 +122,13 @@ where
         now.as_nanosecond() <= nanosecond_after(self.accepted_at, self.lifetime)
     }
 
+    // The last nanosecond since 1970 at which the token is good.
+    fn last_nanosecond(&self, margin: Duration) -> i128
+        ensures { result ≡ good_until_of (as_nanos margin) self.now.token }
+    {
+        nanosecond_after(self.accepted_at, self.lifetime) - margin.as_nanos() as i128
+    }
+
     // The last time at which the token is good; `None` if it is out of the range of `Timestamp`.
     pub(crate) fn good_until(&self, margin: Duration) -> Option<Timestamp>
         ensures variant { IsSome result
@@ -126,7 +136,30 @@ where
         ensures some { IfSome result
             (λ end. end.nanosecond ≡ good_until_of (as_nanos margin) self.now.token) }
     {
-        let end = nanosecond_after(self.accepted_at, self.lifetime) - margin.as_nanos() as i128;
-        Timestamp::from_nanosecond(end).ok()
+        moment_of(self.last_nanosecond(margin))
+    }
+}
+
+// The moment so many nanoseconds after 1970; `None` if it is out of the range of `Timestamp`.
+fn moment_of(nanosecond: i128) -> Option<Timestamp>
+    ensures variant { IsSome result ↔ IsTimestampNanos nanosecond }
+    ensures some { IfSome result (λ moment. moment.nanosecond ≡ nanosecond) }
+{
+    Timestamp::from_nanosecond(nanosecond).ok()
+}
+
+impl<TR> KeptToken<TR>
+where
+    TR: TokenResponse + Drop,
+    TR::TokenType: NamedTokenType,
+{
+    // The type of the token.
+    pub(crate) fn token_type(&self) -> &str
+        ensures { result.now ≡ self.now.token.token_type }
+    {
+        match &self.source {
+            AccessSource::Stored(_, token_type) => token_type.as_str(),
+            AccessSource::Reply(reply) => name_of(reply.token_type()),
+        }
     }
 }

@@ -1,6 +1,13 @@
 //! The token and the refresh token that a keeper keeps, in the replies that have them.
 
-ghost use Rattle.std.specs.Prelude.{◌≡◌, Some, None, option_copied, option_map};
+ghost use Rattle.std.specs.Prelude.{
+  ◌≡◌,
+  Some,
+  None,
+  option_copied,
+  option_map,
+  string_bytes,
+};
 ghost use Rattle.std.specs.Duration.{as_nanos};
 ghost use Rattle.std.specs.Option.{option_or};
 ghost use Rattle.oauth2_keeper.specs.Keeper.{accepted_token, given_by};
@@ -126,6 +133,7 @@ where
     pub(crate) fn start_from(
         &mut self,
         access_token: AccessToken,
+        token_type: String,
         accepted_at: Timestamp,
         lifetime: Duration,
         refresh_token: Option<RefreshToken>,
@@ -133,6 +141,7 @@ where
         ensures { self.new ≡ record {
           token = Some (record {
             access_token = access_token;
+            token_type = string_bytes token_type;
             accepted_at = accepted_at.nanosecond;
             lifetime = as_nanos lifetime;
           });
@@ -140,7 +149,7 @@ where
         } }
     {
         self.token = Some(KeptToken {
-            source: AccessSource::Stored(access_token),
+            source: AccessSource::Stored(access_token, token_type),
             accepted_at,
             lifetime,
         });
@@ -152,7 +161,8 @@ where
 
     // Keeps the token of a reply that was accepted at `now`, and its refresh token if it has one.
     pub(crate) fn accept(&mut self, now: Timestamp, reply: TR, default_lifetime: Duration)
-        ensures { let given = given_by TR.access_token TR.lifetime TR.refresh_token reply in
+        ensures { let given = given_by TR.TokenType.writing TR.access_token TR.token_type
+            TR.lifetime TR.refresh_token reply in
             self.new ≡ record {
               token = Some (accepted_token (as_nanos default_lifetime) now.nanosecond given);
               refresh_token = option_or given.refresh_token self.old.refresh_token;

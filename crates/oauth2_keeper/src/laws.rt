@@ -5,6 +5,9 @@ ghost use Rattle.oauth2_wire.specs.Reply.{answer_of};
 ghost use Rattle.oauth2_keeper.specs.Keeper.{given_by};
 ghost use Rattle.oauth2_keeper.specs.Patience.{
   EachPatientRunIsARun,
+  EachRunOfAnyTypeIsARun,
+  EachTokenIsUsable,
+  EachOtherTypeIsWaitedFor,
   EachFailureIsWaitedFor,
   EachSetBackIsWaitedFor,
   EachEndIsWithinTheWait,
@@ -25,7 +28,8 @@ use oauth2_retry_after::AsksToWait;
 pub fn each_run_keeps_the_last<C: SyncHttpClient, TE: ErrorResponse, TR: TokenResponse>()
     ensures { EachRunKeepsTheLast
         (λ rule. AsksOnce TR.meaning TE.meaning C.step (answer_of rule TR.reading TE.reading))
-        (given_by TR.access_token TR.lifetime TR.refresh_token) }
+        (given_by TR.TokenType.writing TR.access_token TR.token_type TR.lifetime
+        TR.refresh_token) }
 {}
 
 /// Which calls make a request, and so what is kept after each, depends only on what was kept at
@@ -34,7 +38,8 @@ pub fn each_run_keeps_the_last<C: SyncHttpClient, TE: ErrorResponse, TR: TokenRe
 pub fn each_run_follows_from_its_replies<C: SyncHttpClient, TE: ErrorResponse, TR: TokenResponse>()
     ensures { EachRunFollowsFromItsReplies
         (λ rule. AsksOnce TR.meaning TE.meaning C.step (answer_of rule TR.reading TE.reading))
-        (given_by TR.access_token TR.lifetime TR.refresh_token) }
+        (given_by TR.TokenType.writing TR.access_token TR.token_type TR.lifetime
+        TR.refresh_token) }
 {}
 
 /// Calls of `lend_token` and of `token` are calls of a keeper at the same times, in order, so the
@@ -44,31 +49,64 @@ pub fn each_run_follows_from_its_replies<C: SyncHttpClient, TE: ErrorResponse, T
 pub fn each_lending_run_is_a_run<C: SyncHttpClient, TE: ErrorResponse, TR: TokenResponse>()
     ensures { EachLendingRunIsARun
         (λ rule. AsksOnce TR.meaning TE.meaning C.step (answer_of rule TR.reading TE.reading))
-        (given_by TR.access_token TR.lifetime TR.refresh_token) }
+        (given_by TR.TokenType.writing TR.access_token TR.token_type TR.lifetime
+        TR.refresh_token) }
 {}
 
 /// The calls of a patient keeper that are not held back are calls of its keeper at the same times,
-/// in order, so the laws of a keeper hold for them.
+/// in order. Before the first and after each of them, a token that its caller can't use is
+/// forgotten.
 #[tactic(auto, using(crate::proofs::Patience::is_a_run))]
 pub fn each_patient_run_is_a_run<C: SyncHttpClient, TE: ErrorResponse, TR: TokenResponse>()
 where
     C::Error: AsksToWait,
     ensures { EachPatientRunIsARun
         (λ rule. AsksOnce TR.meaning TE.meaning C.step (answer_of rule TR.reading TE.reading))
-        (given_by TR.access_token TR.lifetime TR.refresh_token) C.Error.asked_wait }
+        (given_by TR.TokenType.writing TR.access_token TR.token_type TR.lifetime
+        TR.refresh_token) C.Error.asked_wait }
 {}
 
-/// After a failed request, a patient keeper makes no request before the wait has passed. The wait
+/// For a caller that can use tokens of any type, none is forgotten, so the laws of a keeper hold for
+/// the calls of a patient keeper that are not held back.
+#[tactic(auto, using(crate::proofs::Patience::any_is_a_run))]
+pub fn each_run_of_any_type_is_a_run<C: SyncHttpClient, TE: ErrorResponse, TR: TokenResponse>()
+where
+    C::Error: AsksToWait,
+    ensures { EachRunOfAnyTypeIsARun
+        (λ rule. AsksOnce TR.meaning TE.meaning C.step (answer_of rule TR.reading TE.reading))
+        (given_by TR.TokenType.writing TR.access_token TR.token_type TR.lifetime
+        TR.refresh_token) C.Error.asked_wait }
+{}
+
+/// After any number of calls of a patient keeper, one without an error leaves a token of a type that
+/// its caller can use (RFC 6749, section 7.1): it came with a reply, or was stored, as such.
+pub fn each_token_is_usable<C: SyncHttpClient, TE: ErrorResponse, TR: TokenResponse>()
+where
+    C::Error: AsksToWait,
+    ensures { EachTokenIsUsable
+        (λ rule. AsksOnce TR.meaning TE.meaning C.step (answer_of rule TR.reading TE.reading))
+        (given_by TR.TokenType.writing TR.access_token TR.token_type TR.lifetime
+        TR.refresh_token) C.Error.asked_wait }
+{}
+
+/// After a failed request, and after a reply with a token that its caller can't use, a patient
+/// keeper makes no request before the wait has passed. The wait
 /// begins at that request or, if the clock was set back to before it, at the first call after that.
 pub fn each_failure_is_waited_for<C: SyncHttpClient, TE: ErrorResponse, TR: TokenResponse>()
 where
     C::Error: AsksToWait,
     ensures waits { EachFailureIsWaitedFor
         (λ rule. AsksOnce TR.meaning TE.meaning C.step (answer_of rule TR.reading TE.reading))
-        (given_by TR.access_token TR.lifetime TR.refresh_token) C.Error.asked_wait }
+        (given_by TR.TokenType.writing TR.access_token TR.token_type TR.lifetime
+        TR.refresh_token) C.Error.asked_wait }
+    ensures other_type { EachOtherTypeIsWaitedFor
+        (λ rule. AsksOnce TR.meaning TE.meaning C.step (answer_of rule TR.reading TE.reading))
+        (given_by TR.TokenType.writing TR.access_token TR.token_type TR.lifetime
+        TR.refresh_token) C.Error.asked_wait }
     ensures set_back { EachSetBackIsWaitedFor
         (λ rule. AsksOnce TR.meaning TE.meaning C.step (answer_of rule TR.reading TE.reading))
-        (given_by TR.access_token TR.lifetime TR.refresh_token) C.Error.asked_wait }
+        (given_by TR.TokenType.writing TR.access_token TR.token_type TR.lifetime
+        TR.refresh_token) C.Error.asked_wait }
 {}
 
 /// However the clock is set, a patient keeper is never held back for longer than one wait from the
@@ -78,10 +116,12 @@ where
     C::Error: AsksToWait,
     ensures told { EachEndIsWithinTheWait
         (λ rule. AsksOnce TR.meaning TE.meaning C.step (answer_of rule TR.reading TE.reading))
-        (given_by TR.access_token TR.lifetime TR.refresh_token) C.Error.asked_wait }
+        (given_by TR.TokenType.writing TR.access_token TR.token_type TR.lifetime
+        TR.refresh_token) C.Error.asked_wait }
     ensures ends { EachWaitEnds
         (λ rule. AsksOnce TR.meaning TE.meaning C.step (answer_of rule TR.reading TE.reading))
-        (given_by TR.access_token TR.lifetime TR.refresh_token) C.Error.asked_wait }
+        (given_by TR.TokenType.writing TR.access_token TR.token_type TR.lifetime
+        TR.refresh_token) C.Error.asked_wait }
 {}
 
 /// After a failed request whose error tells a wait that the server asks for, a patient keeper makes
@@ -91,7 +131,8 @@ where
     C::Error: AsksToWait,
     ensures { EachAskedWaitIsHeeded
         (λ rule. AsksOnce TR.meaning TE.meaning C.step (answer_of rule TR.reading TE.reading))
-        (given_by TR.access_token TR.lifetime TR.refresh_token) C.Error.asked_wait }
+        (given_by TR.TokenType.writing TR.access_token TR.token_type TR.lifetime
+        TR.refresh_token) C.Error.asked_wait }
 {}
 
 /// A patient keeper never waits for less than the wait of `set_retry_after`, and never for more
@@ -102,7 +143,8 @@ where
     C::Error: AsksToWait,
     ensures { EachWaitIsBounded
         (λ rule. AsksOnce TR.meaning TE.meaning C.step (answer_of rule TR.reading TE.reading))
-        (given_by TR.access_token TR.lifetime TR.refresh_token) C.Error.asked_wait }
+        (given_by TR.TokenType.writing TR.access_token TR.token_type TR.lifetime
+        TR.refresh_token) C.Error.asked_wait }
 {}
 
 /// An error of a request begins a wait exactly if the HTTP client was called.

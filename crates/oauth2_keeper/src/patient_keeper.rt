@@ -14,14 +14,22 @@ ghost use Rattle.std.specs.Prelude.{
   OnOk,
   OnErr,
   if◌then◌else◌,
+  map,
+  IfErr,
 };
 ghost use Rattle.std.specs.Duration.{as_nanos};
 ghost use Rattle.std.specs.Fn.{FnOnceReturnsAt};
 ghost use Rattle.oauth2_wire.specs.Once.{AsksOnce};
 ghost use Rattle.oauth2_wire.specs.Reply.{answer_of};
 ghost use Rattle.oauth2_keeper.specs.Keeper.{given_by};
+ghost use Rattle.oauth2_keeper.specs.TokenTypes.{bearer, is_understood};
+ghost use Rattle.oauth2_keeper.specs.private.Settled.{SettlesByType};
 ghost use Rattle.oauth2_keeper.specs.Patience.{
   Patient,
+  is_usable_if_any,
+  without_other_type,
+  other_type_call,
+  IsLeftBy,
   waits_from,
   is_held_back,
   held_back,
@@ -29,11 +37,13 @@ ghost use Rattle.oauth2_keeper.specs.Patience.{
   IsUntil,
   counts,
   failed_call,
+  UsableCalls,
   PatientCalls,
   PatientAnswers,
 };
 
 use crate::token_keeper::TokenKeeper;
+use crate::token_types::{BEARER, NamedTokenType, is_one_of};
 use crate::waits::{asked_wait, wait_in_force};
 use jiff::Timestamp;
 use oauth2::basic::{
@@ -59,6 +69,10 @@ pub enum PatientError<RE, TE> {
     Request(RequestTokenError<RE, TE>),
     /// No request is made before this time; `None` if it is out of the range of `Timestamp`.
     Waits(Option<Timestamp>),
+    /// The server gave a token whose type is none of those that the caller can use, so it must not
+    /// be used (RFC 6749, section 7.1) and is forgotten. The refresh token of that reply is kept,
+    /// and no request is made until the wait of `set_retry_after` has passed.
+    OtherTokenType,
 }
 
 impl<RE, TE: fmt::Display> fmt::Display for PatientError<RE, TE> {
@@ -72,6 +86,7 @@ impl<RE, TE: fmt::Display> fmt::Display for PatientError<RE, TE> {
         match self {
             PatientError::Request(error) => write_display(f, error),
             PatientError::Waits(_) => f.write_str("The last request failed, and none is made yet"),
+            PatientError::OtherTokenType => f.write_str("The server gave a token of another type"),
         }
     }
 }
@@ -94,6 +109,7 @@ where
     R: EndpointState,
 {
     keeper: TokenKeeper<'a, TE, TR, TIR, RT, TRE, A, D, I, R>,
+    token_types: Option<&'a [&'a str]>,
     least_wait: Duration,
     most_asked_wait: Duration,
     wait: Duration,
@@ -114,6 +130,7 @@ where
     fn drop(self) {
         let PatientKeeper {
             keeper: _,
+            token_types: _,
             least_wait: _,
             most_asked_wait: _,
             wait: _,
@@ -153,7 +170,7 @@ where
     I: EndpointState,
     R: EndpointState,
 {
-    ghost use Rattle.std.specs.Prelude.{option_map};
+    ghost use Rattle.std.specs.Prelude.{map, option_map};
     ghost use Rattle.std.specs.Duration.{as_nanos};
     ghost use Rattle.oauth2_keeper.specs.Patience.{Patient};
 
@@ -161,6 +178,7 @@ where
 
     ghost view = { λ k. record {
       keeper = k.keeper;
+      token_types = option_map (λ names. map (λ name. name.now) names.now) k.token_types;
       least_wait = as_nanos k.least_wait;
       most_asked_wait = as_nanos k.most_asked_wait;
       wait = as_nanos k.wait;
@@ -178,13 +196,15 @@ where
     R: EndpointState,
 {
     /// A keeper that makes no request until `wait` has passed since the last failed one. It heeds
-    /// no longer wait that a server asks for, unless `heed_retry_after` is called.
+    /// no longer wait that a server asks for, unless `heed_retry_after` is called, and its caller
+    /// can use bearer tokens alone, unless `expecting_token_types` or `expecting_any_token_type` is.
     pub fn set_retry_after(
         self,
         wait: Duration,
     ) -> PatientKeeper<'a, TE, TR, TIR, RT, TRE, A, D, I, R>
         ensures { result ≡ record {
           keeper = self.entry;
+          token_types = Some bearer;
           least_wait = as_nanos wait;
           most_asked_wait = 0;
           wait = as_nanos wait;
@@ -194,6 +214,7 @@ where
     {
         PatientKeeper {
             keeper: self,
+            token_types: Some(BEARER),
             least_wait: wait,
             most_asked_wait: Duration::ZERO,
             wait,
@@ -211,6 +232,26 @@ where
     I: EndpointState,
     R: EndpointState,
 {
+    /// Its caller can use tokens of these types, in any case of their letters (RFC 6749, sections
+    /// 5.1 and 7.1). A token of another type is not handed out, also one that is kept already: the
+    /// next call forgets it.
+    pub fn expecting_token_types(mut self, token_types: &'a [&'a str]) -> Self
+        ensures { result ≡ record self.entry {
+          token_types = Some (map (λ name. name.now) token_types.now);
+        } }
+    {
+        self.token_types = Some(token_types);
+        self
+    }
+
+    /// Its caller can use tokens of any type.
+    pub fn expecting_any_token_type(mut self) -> Self
+        ensures { result ≡ record self.entry { token_types = None } }
+    {
+        self.token_types = None;
+        self
+    }
+
     /// Heeds the wait that a server asks for in a Retry-After (RFC 9110, section 10.2.3; RFC 6585,
     /// section 4), up to `most_wait`: after a failed request whose error tells such a wait, no
     /// request is made before that time has passed. A wait of `set_retry_after` that is longer is
@@ -255,6 +296,25 @@ where
         } }
     {
         self.keeper.forget_refresh_token();
+    }
+
+    // Whether its caller can use a token of this type.
+    fn understands(&self, found: &str) -> bool
+        ensures { result ≡ is_understood self.now.token_types found.now }
+    {
+        match self.token_types {
+            Some(token_types) => is_one_of(token_types, found),
+            None => true,
+        }
+    }
+
+    // Begins the wait after a reply at `now` had a token of another type, and forgets that.
+    fn note_other_type(&mut self, now: Timestamp)
+        ensures { self.new ≡ other_type_call self.old now.nanosecond self.old.keeper }
+    {
+        self.forget_token();
+        self.wait = self.least_wait;
+        self.failed_at = Some(now);
     }
 
     // Ends the wait after a call without an error, unless the kept token was good and no request
@@ -347,8 +407,51 @@ fn counts<RE, TE>(error: &RequestTokenError<RE, TE>) -> bool
 
 impl<'a, TE, TR, TIR, RT, TRE, A, D, I, R> PatientKeeper<'a, TE, TR, TIR, RT, TRE, A, D, I, R>
 where
+    TR: TokenResponse + Drop,
+    TR::TokenType: NamedTokenType,
+    A: EndpointState,
+    D: EndpointState,
+    I: EndpointState,
+    R: EndpointState,
+{
+    // Whether its caller can use the kept token, if there is one.
+    fn is_usable_if_any(&self) -> bool
+        ensures { result ≡ is_usable_if_any self.now.token_types self.now.keeper.token }
+    {
+        match self.keeper.token_type() {
+            Some(token_type) => self.understands(token_type),
+            None => true,
+        }
+    }
+
+    // Forgets the kept token if its caller can't use it.
+    fn forget_other_type(&mut self)
+        ensures { self.new ≡ without_other_type self.old }
+    {
+        if !self.is_usable_if_any() {
+            self.forget_token();
+        }
+    }
+
+    // What is kept after a call of the keeper without an error, by the type of the kept token.
+    fn settle<RE>(&mut self, now: Timestamp, was_good: bool) -> Result<(), PatientError<RE, TE>>
+        ensures { SettlesByType self.old now.nanosecond was_good result self.new }
+    {
+        if self.is_usable_if_any() {
+            self.note_success(was_good);
+            Ok(())
+        } else {
+            self.note_other_type(now);
+            Err(PatientError::OtherTokenType)
+        }
+    }
+}
+
+impl<'a, TE, TR, TIR, RT, TRE, A, D, I, R> PatientKeeper<'a, TE, TR, TIR, RT, TRE, A, D, I, R>
+where
     TE: ErrorResponse,
     TR: TokenResponse + Drop,
+    TR::TokenType: NamedTokenType,
     A: EndpointState,
     D: EndpointState,
     I: EndpointState,
@@ -359,7 +462,8 @@ where
     /// change: the call returns `Waits`, or `Ok` if the kept token may be used to the end of its
     /// lifetime. The wait is that of `set_retry_after`, or a longer one that the server asked for,
     /// if it is heeded. If the call comes before the request that failed, the clock was set back,
-    /// and the wait is counted from this call.
+    /// and the wait is counted from this call. A token that the caller can't use is forgotten, and
+    /// after such a reply the call returns `OtherTokenType`; nothing is allocated for that.
     pub fn keep_good<C: SyncHttpClient>(
         &mut self,
         alloc: Global,
@@ -371,12 +475,15 @@ where
         requires { C.is_ready http_client.old }
         ensures call { PatientCalls
             (λ rule. AsksOnce TR.meaning TE.meaning C.step (answer_of rule TR.reading TE.reading))
-            (given_by TR.access_token TR.lifetime TR.refresh_token) C.Error.asked_wait
+            (given_by TR.TokenType.writing TR.access_token TR.token_type TR.lifetime
+            TR.refresh_token) C.Error.asked_wait
             self.old now.nanosecond http_client.old result http_client.new self.new }
         ensures token { OnOk result (IsSome self.new.keeper.token) }
-        ensures fault { OnErr result (self.new.keeper ≡ self.old.keeper) }
+        ensures fault { IfErr result (λ error.
+            IsLeftBy error (without_other_type self.old).keeper self.new.keeper) }
         ensures ready { C.is_ready http_client.new }
     {
+        self.forget_other_type();
         if self.is_held_back(now) {
             self.note_wait(now);
             if self.lasts(now) {
@@ -387,12 +494,32 @@ where
                 None => None,
             }));
         }
+        self.call(alloc, now, http_client)
+    }
+
+    // Calls the keeper.
+    fn call<C: SyncHttpClient>(
+        &mut self,
+        alloc: Global,
+        now: Timestamp,
+        http_client: &mut C,
+    ) -> Result<(), PatientError<C::Error, TE>>
+    where
+        C::Error: AsksToWait,
+        requires ready { C.is_ready http_client.old }
+        requires free { is_held_back self.old now.nanosecond ≡ false }
+        ensures call { UsableCalls
+            (λ rule. AsksOnce TR.meaning TE.meaning C.step (answer_of rule TR.reading TE.reading))
+            (given_by TR.TokenType.writing TR.access_token TR.token_type TR.lifetime
+            TR.refresh_token) C.Error.asked_wait
+            self.old now.nanosecond http_client.old result http_client.new self.new }
+        ensures token { OnOk result (IsSome self.new.keeper.token) }
+        ensures fault { IfErr result (λ error. IsLeftBy error self.old.keeper self.new.keeper) }
+        ensures ready { C.is_ready http_client.new }
+    {
         let was_good = self.keeper.is_good(now);
         match self.keeper.keep_good(alloc, now, http_client) {
-            Ok(()) => {
-                self.note_success(was_good);
-                Ok(())
-            }
+            Ok(()) => self.settle(now, was_good),
             Err(error) => {
                 self.note_fault(now, &error);
                 Err(PatientError::Request(error))
@@ -415,7 +542,8 @@ where
         ensures call { (kept : Patient)
             × PatientAnswers
             (λ rule. AsksOnce TR.meaning TE.meaning C.step (answer_of rule TR.reading TE.reading))
-            (given_by TR.access_token TR.lifetime TR.refresh_token) C.Error.asked_wait
+            (given_by TR.TokenType.writing TR.access_token TR.token_type TR.lifetime
+            TR.refresh_token) C.Error.asked_wait
             (λ text token. token.now ≡ text)
             self.old now.nanosecond http_client.old result http_client.new kept }
         ensures ready { C.is_ready http_client.new }
@@ -442,7 +570,8 @@ where
         requires read { F.IsAlwaysCallable read }
         ensures call { PatientAnswers
             (λ rule. AsksOnce TR.meaning TE.meaning C.step (answer_of rule TR.reading TE.reading))
-            (given_by TR.access_token TR.lifetime TR.refresh_token) C.Error.asked_wait
+            (given_by TR.TokenType.writing TR.access_token TR.token_type TR.lifetime
+            TR.refresh_token) C.Error.asked_wait
             (λ text value. FnOnceReturnsAt F.FnOnce read text value)
             self.old now.nanosecond http_client.old result http_client.new self.new }
         ensures ready { C.is_ready http_client.new }

@@ -18,6 +18,7 @@ ghost use Rattle.std.specs.Prelude.{
   OnErr,
   option_copied,
   option_map,
+  string_bytes,
 };
 ghost use Rattle.std.specs.Duration.{as_nanos};
 ghost use Rattle.std.specs.Fn.{FnOnceReturnsAt};
@@ -47,6 +48,7 @@ use crate::kept_tokens::KeptTokens;
 use crate::params::{Params, with_client_params, with_refresh_params};
 use crate::renewal_times::RenewalTimes;
 use crate::scopes::{joined_scope, joined_scopes};
+use crate::token_types::NamedTokenType;
 use jiff::Timestamp;
 use oauth2::basic::{
     BasicErrorResponse, BasicRevocationErrorResponse, BasicTokenIntrospectionResponse,
@@ -254,22 +256,30 @@ where
         self.extra_params.push(alloc, name, value)
     }
 
-    /// Starts from a stored token: the one that a call at `accepted_at` got, with its lifetime and
-    /// the refresh token that was kept with it.
+    /// Starts from a stored token: the one that a call at `accepted_at` got, with its type, its
+    /// lifetime and the refresh token that was kept with it.
     pub fn starting_from(
         mut self,
         access_token: AccessToken,
+        token_type: String,
         accepted_at: Timestamp,
         lifetime: Duration,
         refresh_token: Option<RefreshToken>,
     ) -> Self
         ensures { result ≡ starting_from self.entry (record {
           access_token = access_token;
+          token_type = string_bytes token_type;
           accepted_at = accepted_at.nanosecond;
           lifetime = as_nanos lifetime;
         }) refresh_token }
     {
-        self.start_from(access_token, accepted_at, lifetime, refresh_token);
+        self.start_from(
+            access_token,
+            token_type,
+            accepted_at,
+            lifetime,
+            refresh_token,
+        );
         self
     }
 
@@ -278,18 +288,25 @@ where
     pub fn start_from(
         &mut self,
         access_token: AccessToken,
+        token_type: String,
         accepted_at: Timestamp,
         lifetime: Duration,
         refresh_token: Option<RefreshToken>,
     )
         ensures { self.new ≡ starting_from self.old (record {
           access_token = access_token;
+          token_type = string_bytes token_type;
           accepted_at = accepted_at.nanosecond;
           lifetime = as_nanos lifetime;
         }) refresh_token }
     {
-        self.kept
-            .start_from(access_token, accepted_at, lifetime, refresh_token);
+        self.kept.start_from(
+            access_token,
+            token_type,
+            accepted_at,
+            lifetime,
+            refresh_token,
+        );
     }
 
     /// Forgets the kept token, so that the next call makes a request. It is for a token that a
@@ -398,6 +415,27 @@ where
 
 impl<'a, TE, TR, TIR, RT, TRE, A, D, I, R> TokenKeeper<'a, TE, TR, TIR, RT, TRE, A, D, I, R>
 where
+    TR: TokenResponse + Drop,
+    TR::TokenType: NamedTokenType,
+    A: EndpointState,
+    D: EndpointState,
+    I: EndpointState,
+    R: EndpointState,
+{
+    /// The type of the kept token (RFC 6749, section 7.1), in the case of the reply's reader: that
+    /// of a `BasicTokenType` has small letters.
+    pub fn token_type(&self) -> Option<&str>
+        ensures { option_copied result ≡ option_map (λ token. token.token_type) self.now.token }
+    {
+        match self.kept.token() {
+            Some(token) => Some(token.token_type()),
+            None => None,
+        }
+    }
+}
+
+impl<'a, TE, TR, TIR, RT, TRE, A, D, I, R> TokenKeeper<'a, TE, TR, TIR, RT, TRE, A, D, I, R>
+where
     TE: ErrorResponse,
     TR: TokenResponse + Drop,
     A: EndpointState,
@@ -418,7 +456,8 @@ where
         requires { C.is_ready http_client.old }
         ensures call { KeeperCalls
             (λ rule. AsksOnce TR.meaning TE.meaning C.step (answer_of rule TR.reading TE.reading))
-            (given_by TR.access_token TR.lifetime TR.refresh_token)
+            (given_by TR.TokenType.writing TR.access_token TR.token_type TR.lifetime
+            TR.refresh_token)
             self.old now.nanosecond http_client.old result http_client.new self.new }
         ensures token { OnOk result (IsSome self.new.token) }
         ensures fault { OnErr result (self.new ≡ self.old) }
@@ -456,7 +495,8 @@ where
             TR.TokenType.PartialEq TR.TokenType.TryClone
             A.EndpointState D.EndpointState I.EndpointState R.EndpointState
             (λ rule. AsksOnce TR.meaning TE.meaning C.step (answer_of rule TR.reading TE.reading))
-            (given_by TR.access_token TR.lifetime TR.refresh_token)
+            (given_by TR.TokenType.writing TR.access_token TR.token_type TR.lifetime
+            TR.refresh_token)
             self.entry now.nanosecond http_client.old result fault.new http_client.new) }
         ensures ready { C.is_ready http_client.new }
     {
@@ -482,7 +522,8 @@ where
         ensures call { (kept : Keeper)
             × Answers
             (λ rule. AsksOnce TR.meaning TE.meaning C.step (answer_of rule TR.reading TE.reading))
-            (given_by TR.access_token TR.lifetime TR.refresh_token)
+            (given_by TR.TokenType.writing TR.access_token TR.token_type TR.lifetime
+            TR.refresh_token)
             (λ text token. token.now ≡ text)
             self.old now.nanosecond http_client.old result http_client.new kept }
         ensures ready { C.is_ready http_client.new }
@@ -510,7 +551,8 @@ where
         requires read { F.IsAlwaysCallable read }
         ensures call { Answers
             (λ rule. AsksOnce TR.meaning TE.meaning C.step (answer_of rule TR.reading TE.reading))
-            (given_by TR.access_token TR.lifetime TR.refresh_token)
+            (given_by TR.TokenType.writing TR.access_token TR.token_type TR.lifetime
+            TR.refresh_token)
             (λ text value. FnOnceReturnsAt F.FnOnce read text value)
             self.old now.nanosecond http_client.old result http_client.new self.new }
         ensures ready { C.is_ready http_client.new }
@@ -531,7 +573,8 @@ where
         requires { C.is_ready http_client.old }
         ensures settles { RenewsAndSettles
             (λ rule. AsksOnce TR.meaning TE.meaning C.step (answer_of rule TR.reading TE.reading))
-            (given_by TR.access_token TR.lifetime TR.refresh_token)
+            (given_by TR.TokenType.writing TR.access_token TR.token_type TR.lifetime
+            TR.refresh_token)
             self.old now.nanosecond http_client.old result http_client.new self.new }
         ensures ready { C.is_ready http_client.new }
     {

@@ -1,6 +1,5 @@
 -- How a shared login is refreshed.
-use Rattle.std.specs.Prelude.{◌≡◌, ◌⊎◌, ℕ, ℤ, Bool, true, false, ◌||◌, bytes_eq, List, [], ◌∷◌, map, Option, Some, None, unwrap_or, option_map, Result, Ok, Err}
-use Rattle.std.specs.Char.{to_ascii_lowercase}
+use Rattle.std.specs.Prelude.{◌≡◌, ◌⊎◌, ℕ, ℤ, Bool, true, false, List, Option, Some, None, unwrap_or, option_map, Result, Ok, Err}
 use Rattle.jiff.specs.Types.{Timestamp}
 use Rattle.url.specs.Parts.{serialize}
 use Rattle.oauth2_urls.specs.Addressed.{Addressed}
@@ -16,15 +15,6 @@ use Rattle.oauth2_stored_token.specs.Started.{is_of}
 use Rattle.oauth2_shared_login.specs.declared.refresh_fault.RefreshFault.{RefreshFault}
 use Rattle.oauth2_shared_login.specs.declared.refresh_fault.RefreshFault.TheVariants as fault
 use Rattle.oauth2_shared_login.specs.Login.{Login, refresh_token_of}
-
--- the token type has this name, in any case (RFC 6749, 5.1)
-abbrev pub is_named : List ℕ → List ℕ → Bool
-is_named found name = bytes_eq (map to_ascii_lowercase found) (map to_ascii_lowercase name)
-
--- it has one of these names (RFC 6749, 7.1)
-abbrev pub is_one_of : List (List ℕ) → List ℕ → Bool
-is_one_of [] found = false
-is_one_of (name ∷ names) found = is_named found name || is_one_of names found
 
 -- the login belongs to this client
 abbrev pub is_of_client : {D : Type 0} → Settings → Login D → Bool

@@ -10,8 +10,9 @@ mod refresh_fault;
 mod shared_login;
 
 pub use clock_and_client::ClockAndClient;
-pub use login_refresher::{BEARER, BasicLoginRefresher, LoginRefresher};
+pub use login_refresher::{BasicLoginRefresher, LoginRefresher};
 pub use login_world::LoginWorld;
+pub use oauth2_keeper::token_types::BEARER;
 pub use oauth2_stored_token::ClientAtEndpoint;
 pub use refresh_fault::RefreshFault;
 pub use shared_login::SharedLogin;

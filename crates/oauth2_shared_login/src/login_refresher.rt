@@ -4,7 +4,8 @@ ghost use Rattle.std.specs.Prelude.{◌≡◌, IfOk, map};
 ghost use Rattle.std.specs.Duration.{as_nanos};
 ghost use Rattle.oauth2_wire.specs.Once.{AsksOnce};
 ghost use Rattle.oauth2_wire.specs.Reply.{answer_of};
-ghost use Rattle.oauth2_shared_login.specs.Refreshing.{RefreshesBy, is_named, is_one_of};
+ghost use Rattle.oauth2_keeper.specs.TokenTypes.{is_one_of};
+ghost use Rattle.oauth2_shared_login.specs.Refreshing.{RefreshesBy};
 
 use crate::login_world::LoginWorld;
 use crate::refresh_fault::RefreshFault;
@@ -17,14 +18,12 @@ use oauth2::{
     Client, EndpointNotSet, EndpointSet, EndpointState, ErrorResponse, RefreshToken,
     RequestTokenError, StandardRevocableToken, TokenResponse, TryClone,
 };
+use oauth2_keeper::token_types::is_one_of;
 use oauth2_shared_keeper::RefreshClient;
 use oauth2_stored_token::ClientAtEndpoint;
 use std::alloc::{AllocError, Global};
 use std::convert::AsStr;
 use std::time::Duration;
-
-/// The token type of a caller that can use bearer tokens alone (RFC 6750).
-pub const BEARER: &[&str] = &["Bearer"];
 
 /// Refreshes shared logins at the token endpoint of a client. The type parameters before `W` are
 /// those of the client, and `W` is the clock and the HTTP client.
@@ -87,7 +86,8 @@ where
     ghost use Rattle.std.specs.Duration.{as_nanos};
     ghost use Rattle.oauth2_wire.specs.Once.{AsksOnce};
     ghost use Rattle.oauth2_wire.specs.Reply.{answer_of};
-    ghost use Rattle.oauth2_shared_login.specs.Refreshing.{Refreshes, is_one_of};
+    ghost use Rattle.oauth2_keeper.specs.TokenTypes.{is_one_of};
+    ghost use Rattle.oauth2_shared_login.specs.Refreshing.{Refreshes};
 
     type Error = RefreshFault<W::Error, TE, TR>;
 
@@ -130,25 +130,6 @@ fn copies(
     ensures { IfOk result (λ (token, named). (token ≡ refresh_token.now) × (named ≡ client.now)) }
 {
     Ok((refresh_token.try_clone(alloc)?, client.try_clone(alloc)?))
-}
-
-// Whether a token type is one of these.
-fn is_one_of(token_types: &[&str], found: &str) -> bool
-    ensures { result ≡ is_one_of (map (λ name. name.now) token_types.now) found.now }
-{
-    for name in token_types {
-        if is_named(found, *name) {
-            return true;
-        }
-    }
-    false
-}
-
-// Whether a token type has this name, in any case.
-fn is_named(found: &str, name: &str) -> bool
-    ensures { result ≡ is_named found.now name.now }
-{
-    found.eq_ignore_ascii_case(name)
 }
 
 impl<'a, TE, TR, TIR, RT, TRE, A, D, I, R, W> LoginRefresher<

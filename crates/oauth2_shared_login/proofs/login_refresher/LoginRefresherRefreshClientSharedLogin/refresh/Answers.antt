@@ -3,7 +3,8 @@ use Rattle.std.specs.Duration.{as_nanos}
 use Rattle.oauth2_wire.specs.Once.{AsksOnce}
 use Rattle.oauth2_wire.specs.Reply.{answer_of}
 use Rattle.oauth2_shared_login.specs.Login.{refresh_token_of}
-use Rattle.oauth2_shared_login.specs.Refreshing.{is_one_of, is_of_client, is_of_endpoint}
+use Rattle.oauth2_keeper.specs.TokenTypes.{is_one_of}
+use Rattle.oauth2_shared_login.specs.Refreshing.{is_of_client, is_of_endpoint}
 use Rattle.oauth2_shared_login.proofs.Requesting.{refreshes_sent}
 use Rattle.oauth2_shared_login.proofs.login_refresher.LoginRefresherRefreshClientSharedLogin.refresh.Goals as goal
 
