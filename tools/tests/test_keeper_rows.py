@@ -39,9 +39,9 @@ STORED = ('abc', at(100, 5), at(10, 1), 'tGzv3JOkF0XG5Qx2TlKWIA')
 LATE = ('abc', at(253402207100), at(200), None)
 AUDIENCE = ('audience', 'https://api.example.com/')
 ID, URL = 's6BhdRkqt3', 'https://server.example.com/token'
-# What a row has in place of these: what its keeper starts from and forgets of that, the scopes of client credentials and of a refresh, extra parameters, the
-# margin, the wait, the greatest that a server may ask for, whether the token is used to its end, the calls, and a moment at which the token is read.
-USUAL = dict(start=None, forgotten=None, scopes=[], refresh_scopes=[], extra=[], margin=at(10), wait=at(30), most_wait=0, until_end=False, calls=[], last=0)
+# What a row has in place of these: what its keeper starts from and forgets of that, the types of tokens that its caller can use (None: any), the scopes of
+# client credentials and of a refresh, extra parameters, the margin, the wait, the greatest that a server may ask for, whether the token is used to its end, the calls, and a moment at which the token is read.
+USUAL = dict(start=None, forgotten=None, types=['Bearer', 'Example'], scopes=[], refresh_scopes=[], extra=[], margin=at(10), wait=at(30), most_wait=0, until_end=False, calls=[], last=0)
 ROWS = {
     'scopes': dict(start=STORED, scopes=['read', 'write', 'admin'], refresh_scopes=['read', 'write'], extra=[AUDIENCE, ('resource', 'a b')],
                    calls=[(at(100, 5), TOKENS), (at(101), TOKENS), (at(3691), TOKEN)], last=at(3691)),
@@ -58,6 +58,10 @@ ROWS = {
     'good_until_the_end': dict(start=LATE, margin=at(99, 1), calls=[(LAST, TOKEN)], last=LAST),
     'good_past_the_end': dict(start=LATE, margin=at(99), last=LAST),
     'empty': {},
+    'other_token_type': dict(types=['Bearer'], most_wait=at(300), until_end=True, last=at(330), calls=[
+        (0, TOO_MANY), (at(300), TOKENS), (at(329, 999999999), TOKENS), (at(330), TOKEN)]),
+    'starting_from_another_token_type': dict(start=STORED, types=['Bearer'], calls=[(at(100, 5), REFUSED), (at(101), TOKEN)], last=at(101)),
+    'any_token_type': dict(start=STORED, types=None, calls=[(at(100, 5), TOKEN), (at(101), TOKEN)], last=at(101)),
     'waits': dict(calls=[(0, TOKEN), (at(3600), REFUSED), (at(3590), TOKEN), (at(3629, 999999999), TOKEN), (at(3630), EMPTY),
                          (at(3631), TOKEN), (at(3660), TOKEN)], last=at(3660)),
     'waits_after_the_clock_was_set_back': dict(calls=[(at(1000), REFUSED), (at(10), TOKEN), (0, TOKEN), (at(29, 999999999), TOKEN),
@@ -73,7 +77,8 @@ ROWS = {
     'waits_no_longer_unasked': dict(last=at(30), calls=[(0, BUSY), (at(30), TOKEN)])}
 # The stored tokens that are only read and written; of which client and endpoint they are is not stored.
 TEXTS = {'stored_before_1970': ('abc', at(-377705023201, 1), MOST_SPAN, None, None, None),
-         'stored_past_the_end': ('abc', at(253402207200, SECOND), 0, 'def', None, None)}
+         'stored_past_the_end': ('abc', at(253402207200, SECOND), 0, 'def', None, None),
+         'stored_without_a_type': None}
 # Those that a keeper does not take, and what they are of.
 NOT_TAKEN = {'stored_of_another_client': (('abc', 0, at(60), 'def', 's6BhdRkqt', 'https://other.example.com/token'), 'client'),
              'stored_of_another_endpoint': (('abc', 0, at(60), None, None, URL + '2'), 'token endpoint')}
@@ -89,7 +94,7 @@ def shown(name, moment):
 
 def written(token, accepted_at, lifetime, refresh_token, client_id, token_url):
     """A stored token as JSON, its members in the order of their names."""
-    members = {'access_token': token, 'accepted_at': accepted_at // SECOND, 'accepted_at_nanoseconds': accepted_at % SECOND,
+    members = {'access_token': token, 'token_type': 'example', 'accepted_at': accepted_at // SECOND, 'accepted_at_nanoseconds': accepted_at % SECOND,
                'lifetime': lifetime // SECOND, 'lifetime_nanoseconds': lifetime % SECOND}
     members.update({name: it for name, it in (('refresh_token', refresh_token), ('client_id', client_id), ('token_url', token_url))
                     if it is not None})
@@ -119,6 +124,8 @@ class Keeper:
 
     def call(self, now, reply):
         """The lines of a call, by the table of `keeper`; `reply` is None for a client that fails."""
+        if not self.is_usable():
+            self.token = None
         if self.lasts(now, self.row['margin']):
             return ['token ' + self.token]
         if self.failed_at is not None and now < min(self.failed_at, now) + self.wait:
@@ -127,6 +134,10 @@ class Keeper:
                 return ['token ' + self.token]
             return ['error The last request failed, and none is made yet', shown('waits until', self.failed_at + self.wait)]
         return ['body ' + self.body(), *self.answer(now, *reply or (0, None))]
+
+    def is_usable(self):
+        """RFC 6749, 7.1, in any case (5.1): the tokens are of the type `example`."""
+        return self.row['types'] is None or 'example' in [it.lower() for it in self.row['types']]
 
     def answer(self, now, status, told):
         if status != 200:
@@ -141,6 +152,9 @@ class Keeper:
         self.token, self.accepted_at, self.failed_at = told['access_token'], now, None
         self.lifetime = at(told['expires_in']) if 'expires_in' in told else LIFE
         self.refresh_token = told.get('refresh_token', self.refresh_token)
+        if not self.is_usable():
+            self.token, self.failed_at, self.wait = None, now, self.row['wait']
+            return ['error The server gave a token of another type']
         return ['token ' + self.token]
 
     def kept(self):
@@ -161,6 +175,8 @@ def keeper_lines(row):
 
 
 def text_lines(stored):
+    if stored is None:
+        return ['fault "token_type" Missing']
     if not FIRST <= stored[1] <= LAST:
         return ['fault "accepted_at" OutOfRange']
     return ['debug StoredToken([redacted]) StoredToken([redacted])', written(*stored)]

@@ -155,6 +155,9 @@ fn answer(
             let error = error.to_string(alloc)?;
             Ok(json!(in alloc; {"job": job, "error": error})?)
         }
+        Err(PatientError::OtherTokenType) => {
+            Ok(json!(in alloc; {"job": job, "error": "the token is no bearer token"})?)
+        }
         Err(PatientError::Waits(until)) => {
             let until = moment(alloc, until)?;
             Ok(json!(in alloc; {"job": job, "waits_until": until})?)

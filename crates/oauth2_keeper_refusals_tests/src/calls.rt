@@ -143,7 +143,7 @@ fn show_answer<W: Write>(
             show_error(out, error)?;
             match error {
                 PatientError::Request(RequestTokenError::Request(cause)) => show_cause(out, cause),
-                PatientError::Request(_) => Ok(()),
+                PatientError::Request(_) | PatientError::OtherTokenType => Ok(()),
                 PatientError::Waits(until) => show_moment(out, "waits until", *until),
             }
         }

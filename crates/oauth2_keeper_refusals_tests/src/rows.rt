@@ -11,14 +11,16 @@ use oauth2_refusals_support::{Ended, Rows, find};
 use std::alloc::{AllocError, Global};
 use std::io::Write;
 
-// A keeper: what it starts from, what of that it forgets, what is added to it, its margin, how long
-// it waits after a failed request, and how long at most if the server asks for it, whether it uses
-// a token until the end of its lifetime, its calls, and a time at which its token is used.
+// A keeper: what it starts from, what of that it forgets, what is added to it, the types of tokens
+// that its caller can use, its margin, how long it waits after a failed request, and how long at
+// most if the server asks for it, whether it uses a token until the end of its lifetime, its calls,
+// and a time at which its token is used.
 #[derive(Clone, Copy)]
 struct KeeperRow {
     start: Start<'static>,
     forgotten: Forgotten,
     additions: &'static [Addition<'static>],
+    expected: Expected,
     margin: Span,
     wait: Span,
     most_wait: Span,
@@ -32,6 +34,13 @@ enum Forgotten {
     Nothing,
     Token,
     RefreshToken,
+}
+
+#[derive(Clone, Copy)]
+enum Expected {
+    Bearer,
+    Types(&'static [&'static str]),
+    Any,
 }
 
 #[derive(Clone, Copy)]
@@ -74,6 +83,7 @@ const USUAL: KeeperRow = KeeperRow {
     start: Start::Empty,
     forgotten: Forgotten::Nothing,
     additions: &[],
+    expected: Expected::Types(&["Bearer", "Example"]),
     margin: (10, 0),
     wait: (30, 0),
     most_wait: (0, 0),
@@ -90,7 +100,7 @@ const STORED: Start<'static> = Start::Values(
     Some("tGzv3JOkF0XG5Qx2TlKWIA"),
 );
 
-const ROWS: [(&str, Row); 22] = [
+const ROWS: [(&str, Row); 26] = [
     (
         "scopes",
         Row::Keeper(KeeperRow {
@@ -112,7 +122,7 @@ const ROWS: [(&str, Row); 22] = [
         "scopes_without_a_refresh_token",
         Row::Keeper(KeeperRow {
             start: Start::Json(
-                "{\"access_token\":\"abc\",\"accepted_at\":-60,\
+                "{\"access_token\":\"abc\",\"token_type\":\"example\",\"accepted_at\":-60,\
                 \"accepted_at_nanoseconds\":0,\"lifetime\":60,\"lifetime_nanoseconds\":0}",
             ),
             additions: &[
@@ -149,7 +159,7 @@ const ROWS: [(&str, Row); 22] = [
         "starting_from_json",
         Row::Keeper(KeeperRow {
             start: Start::Json(
-                "{\"access_token\":\"abc\",\"accepted_at\":-1,\
+                "{\"access_token\":\"abc\",\"token_type\":\"example\",\"accepted_at\":-1,\
                 \"accepted_at_nanoseconds\":999999999,\"lifetime\":10,\
                 \"lifetime_nanoseconds\":2,\"refresh_token\":\"def\"}",
             ),
@@ -163,7 +173,7 @@ const ROWS: [(&str, Row); 22] = [
         "starting_from_json_of_this_client",
         Row::Keeper(KeeperRow {
             start: Start::Json(
-                "{\"access_token\":\"abc\",\"accepted_at\":0,\
+                "{\"access_token\":\"abc\",\"token_type\":\"example\",\"accepted_at\":0,\
                 \"accepted_at_nanoseconds\":0,\"lifetime\":60,\"lifetime_nanoseconds\":0,\
                 \"client_id\":\"s6BhdRkqt3\",\"token_url\":\"https://server.example.com/token\"}",
             ),
@@ -213,6 +223,43 @@ const ROWS: [(&str, Row); 22] = [
         }),
     ),
     ("empty", Row::Keeper(USUAL)),
+    // It keeps the refresh token of a reply whose token it forgets, and waits.
+    (
+        "other_token_type",
+        Row::Keeper(KeeperRow {
+            expected: Expected::Bearer,
+            most_wait: (300, 0),
+            until_end: true,
+            calls: &[
+                ((0, 0), TOO_MANY),
+                ((300, 0), TOKENS),
+                ((329, 999_999_999), TOKENS),
+                ((330, 0), TOKEN),
+            ],
+            last: (330, 0),
+            ..USUAL
+        }),
+    ),
+    (
+        "starting_from_another_token_type",
+        Row::Keeper(KeeperRow {
+            start: STORED,
+            expected: Expected::Bearer,
+            calls: &[((100, 5), REFUSED), ((101, 0), TOKEN)],
+            last: (101, 0),
+            ..USUAL
+        }),
+    ),
+    (
+        "any_token_type",
+        Row::Keeper(KeeperRow {
+            start: STORED,
+            expected: Expected::Any,
+            calls: &[((100, 5), TOKEN), ((101, 0), TOKEN)],
+            last: (101, 0),
+            ..USUAL
+        }),
+    ),
     // The lifetime ends at 3,600 seconds, the first wait at 3,630 and the second at 3,660.
     (
         "waits",
@@ -308,7 +355,7 @@ const ROWS: [(&str, Row); 22] = [
     (
         "stored_before_1970",
         Row::Text(
-            "{\"access_token\":\"abc\",\"accepted_at\":-377705023201,\
+            "{\"access_token\":\"abc\",\"token_type\":\"example\",\"accepted_at\":-377705023201,\
             \"accepted_at_nanoseconds\":1,\"lifetime\":18446744073709551615,\
             \"lifetime_nanoseconds\":999999999}",
         ),
@@ -316,24 +363,31 @@ const ROWS: [(&str, Row); 22] = [
     (
         "stored_past_the_end",
         Row::Text(
-            "{\"access_token\":\"abc\",\"accepted_at\":253402207200,\
+            "{\"access_token\":\"abc\",\"token_type\":\"example\",\"accepted_at\":253402207200,\
             \"accepted_at_nanoseconds\":1000000000,\"lifetime\":0,\
             \"lifetime_nanoseconds\":0,\"refresh_token\":\"def\"}",
         ),
     ),
     (
+        "stored_without_a_type",
+        Row::Text(
+            "{\"access_token\":\"abc\",\"accepted_at\":0,\"accepted_at_nanoseconds\":0,\
+            \"lifetime\":0,\"lifetime_nanoseconds\":0}",
+        ),
+    ),
+    (
         "stored_of_another_client",
         Row::NotTaken(
-            "{\"access_token\":\"abc\",\"accepted_at\":0,\"accepted_at_nanoseconds\":0,\
-            \"lifetime\":60,\"lifetime_nanoseconds\":0,\"refresh_token\":\"def\",\
+            "{\"access_token\":\"abc\",\"token_type\":\"example\",\"accepted_at\":0,\
+            \"accepted_at_nanoseconds\":0,\"lifetime\":60,\"lifetime_nanoseconds\":0,\"refresh_token\":\"def\",\
             \"client_id\":\"s6BhdRkqt\",\"token_url\":\"https://other.example.com/token\"}",
         ),
     ),
     (
         "stored_of_another_endpoint",
         Row::NotTaken(
-            "{\"access_token\":\"abc\",\"accepted_at\":0,\"accepted_at_nanoseconds\":0,\
-            \"lifetime\":60,\"lifetime_nanoseconds\":0,\
+            "{\"access_token\":\"abc\",\"token_type\":\"example\",\"accepted_at\":0,\
+            \"accepted_at_nanoseconds\":0,\"lifetime\":60,\"lifetime_nanoseconds\":0,\
             \"token_url\":\"https://server.example.com/token2\"}",
         ),
     ),
@@ -377,9 +431,14 @@ fn show_by<W: Write>(
 }
 
 fn patient<'a>(keeper: BasicTokenKeeper<'a>, row: KeeperRow) -> BasicPatientKeeper<'a> {
-    let mut keeper = keeper
+    let keeper = keeper
         .set_retry_after(duration(row.wait))
         .heed_retry_after(duration(row.most_wait));
+    let mut keeper = match row.expected {
+        Expected::Bearer => keeper,
+        Expected::Types(token_types) => keeper.expecting_token_types(token_types),
+        Expected::Any => keeper.expecting_any_token_type(),
+    };
     match row.forgotten {
         Forgotten::Nothing => {}
         Forgotten::Token => keeper.forget_token(),

@@ -15,7 +15,8 @@ use std::time::Duration;
 pub enum Start<'a> {
     /// No token.
     Empty,
-    /// A token, the time of the call that got it, its lifetime, and a refresh token.
+    /// A token of the type `example`, the time of the call that got it, its lifetime, and a refresh
+    /// token.
     Values(&'a str, Moment, Span, Option<&'a str>),
     /// A stored token as JSON.
     Json(&'a str),
@@ -47,7 +48,8 @@ pub fn started<'a>(
             let refresh = refresh_token(alloc, refresh)?;
             let token = AccessToken::new(text(alloc, token)?);
             let lifetime = duration(lifetime);
-            Ok(empty(client, margin).starting_from(token, accepted_at, lifetime, refresh))
+            let kind = text(alloc, "example")?;
+            Ok(empty(client, margin).starting_from(token, kind, accepted_at, lifetime, refresh))
         }
         Start::Json(json) => {
             let stored = read_body(alloc, json.as_bytes())?;

@@ -24,10 +24,10 @@ pub record Stored : Type 0 where
 
 -- the stored token with these parts; the time is in nanoseconds since 1970, the lifetime in
 -- nanoseconds
-abbrev pub stored_token : List ℕ → ℤ → ℕ
+abbrev pub stored_token : List ℕ → List ℕ → ℤ → ℕ
     → Option (List ℕ) → Option (List ℕ) → Option (List ℕ) → Stored
-stored_token access_token accepted_at lifetime refresh_token client_id token_url = record {
-  token = record { access_token = access_token; accepted_at = accepted_at; lifetime = lifetime };
+stored_token access_token token_type accepted_at lifetime refresh_token client_id token_url = record {
+  token = record { access_token = access_token; token_type = token_type; accepted_at = accepted_at; lifetime = lifetime };
   refresh_token = refresh_token;
   client_id = client_id;
   token_url = token_url;
@@ -88,6 +88,7 @@ whole_data n = number (unsigned n)
 abbrev pub stored_table : Table Stored
 stored_table =
     column (codes "access_token") (needed_member text) (λ s. Some (string s.token.access_token))
+    ▸ column (codes "token_type") (needed_member text) (λ s. Some (string s.token.token_type))
     ▸ pair_column (codes "accepted_at") (codes "accepted_at_nanoseconds") moment_reading
     (λ s. Some (second_data s.token.accepted_at))
     (λ s. Some (whole_data (nanoseconds_of s.token.accepted_at)))

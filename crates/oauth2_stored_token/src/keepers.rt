@@ -10,6 +10,7 @@ use crate::stored_token::StoredToken;
 use crate::stored_token_error::StoredTokenError;
 use oauth2::{ClientId, EndpointState, RefreshToken, TokenResponse, TokenUrl, TryClone};
 use oauth2_keeper::TokenKeeper;
+use oauth2_keeper::token_types::NamedTokenType;
 use std::alloc::{AllocError, Global};
 
 // A copy of a refresh token, if there is one.
@@ -33,15 +34,18 @@ pub fn to_stored<TE, TR, TIR, RT, TRE, A, D, I, R>(
 ) -> Result<Option<StoredToken>, AllocError>
 where
     TR: TokenResponse + Drop,
+    TR::TokenType: NamedTokenType,
     A: EndpointState,
     D: EndpointState,
     I: EndpointState,
     R: EndpointState,
     ensures { IfOk result (λ stored. stored ≡ stored_of keeper.now) }
 {
-    match (keeper.get(), keeper.accepted_at(), keeper.lifetime()) {
-        (Some(access_token), Some(accepted_at), Some(lifetime)) => Ok(Some(StoredToken {
-            access_token: access_token.try_clone(alloc)?,
+    let texts = (keeper.get(), keeper.token_type());
+    match (texts, keeper.accepted_at(), keeper.lifetime()) {
+        ((Some(token), Some(kind)), Some(accepted_at), Some(lifetime)) => Ok(Some(StoredToken {
+            access_token: token.try_clone(alloc)?,
+            token_type: String::from_str(alloc, kind)?,
             accepted_at,
             lifetime,
             refresh_token: copied_refresh_token(alloc, keeper.refresh_token())?,
@@ -73,7 +77,8 @@ fn is_of_endpoint(stored: &StoredToken, token_url: &TokenUrl) -> bool
 }
 
 /// Starts a keeper from a stored token: its token and its refresh token replace those of the
-/// keeper, whose client, margin and settings do not change. A stored token of another client or of
+/// keeper, whose client, margin and settings do not change. A `PatientKeeper` made of it hands the
+/// token out only if its caller can use tokens of that type. A stored token of another client or of
 /// another token endpoint is refused; the URLs are compared as requests go to them. A token that
 /// was stored by an earlier version names neither, and is taken.
 pub fn start_from_stored<TE, TR, TIR, RT, TRE, A, D, I, R>(
@@ -96,12 +101,19 @@ where
     }
     let StoredToken {
         access_token,
+        token_type,
         accepted_at,
         lifetime,
         refresh_token,
         client_id: _,
         token_url: _,
     } = stored;
-    keeper.start_from(access_token, accepted_at, lifetime, refresh_token);
+    keeper.start_from(
+        access_token,
+        token_type,
+        accepted_at,
+        lifetime,
+        refresh_token,
+    );
     Ok(())
 }

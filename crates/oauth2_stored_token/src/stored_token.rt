@@ -9,16 +9,17 @@ use std::fmt;
 use std::marker::Model;
 use std::time::Duration;
 
-/// A token that was accepted, the moment of the call that got it, its lifetime, the refresh token
-/// that is kept with it, and the client and the token endpoint that they belong to. Contracts see
-/// it as a `Stored`.
+/// A token that was accepted, its type, the moment of the call that got it, its lifetime, the
+/// refresh token that is kept with it, and the client and the token endpoint that they belong to.
+/// Contracts see it as a `Stored`.
 ///
-/// As JSON it is an object with the members `access_token`, `accepted_at` in seconds since 1970 and
-/// `lifetime` in seconds, `accepted_at_nanoseconds` and `lifetime_nanoseconds` to add to them, and
-/// `refresh_token`, `client_id` and `token_url`, each of which may be absent.
+/// As JSON it is an object with the members `access_token`, `token_type`, `accepted_at` in seconds
+/// since 1970 and `lifetime` in seconds, `accepted_at_nanoseconds` and `lifetime_nanoseconds` to add
+/// to them, and `refresh_token`, `client_id` and `token_url`, each of which may be absent.
 #[derive(Drop)]
 pub struct StoredToken {
     pub(crate) access_token: AccessToken,
+    pub(crate) token_type: String,
     pub(crate) accepted_at: Timestamp,
     pub(crate) lifetime: Duration,
     pub(crate) refresh_token: Option<RefreshToken>,
@@ -33,8 +34,9 @@ impl Model for StoredToken {
 
     ghost Value = { Stored };
 
-    ghost view = { λ s. stored_token s.access_token s.accepted_at.nanosecond (as_nanos s.lifetime)
-        s.refresh_token s.client_id (option_map string_bytes s.token_url) };
+    ghost view = { λ s. stored_token s.access_token (string_bytes s.token_type)
+        s.accepted_at.nanosecond (as_nanos s.lifetime) s.refresh_token s.client_id
+        (option_map string_bytes s.token_url) };
 }
 
 impl fmt::Debug for StoredToken {

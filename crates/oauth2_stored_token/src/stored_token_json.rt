@@ -32,26 +32,32 @@ use std::time::Duration;
 const ROWS: (
     Member<Needed<AccessToken>>,
     (
-        MemberPair<Moment>,
+        Member<Needed<String>>,
         (
-            MemberPair<Lifetime>,
+            MemberPair<Moment>,
             (
-                Member<Optional<RefreshToken>>,
-                (Member<Optional<ClientId>>, (Member<OptionalText>, ())),
+                MemberPair<Lifetime>,
+                (
+                    Member<Optional<RefreshToken>>,
+                    (Member<Optional<ClientId>>, (Member<OptionalText>, ())),
+                ),
             ),
         ),
     ),
 ) = (
     Member("access_token", PhantomData),
     (
-        MemberPair("accepted_at", "accepted_at_nanoseconds", PhantomData),
+        Member("token_type", PhantomData),
         (
-            MemberPair("lifetime", "lifetime_nanoseconds", PhantomData),
+            MemberPair("accepted_at", "accepted_at_nanoseconds", PhantomData),
             (
-                Member("refresh_token", PhantomData),
+                MemberPair("lifetime", "lifetime_nanoseconds", PhantomData),
                 (
-                    Member("client_id", PhantomData),
-                    (Member("token_url", PhantomData), ()),
+                    Member("refresh_token", PhantomData),
+                    (
+                        Member("client_id", PhantomData),
+                        (Member("token_url", PhantomData), ()),
+                    ),
                 ),
             ),
         ),
@@ -165,10 +171,12 @@ impl FromJson for StoredToken {
     ghost reading = { stored_reading };
 
     fn from_json(alloc: Global, value: Value) -> Result<StoredToken, ReadError> {
-        let (access_token, (accepted_at, (lifetime, rest))) = read_object(&ROWS, alloc, value)?;
+        let (access_token, (token_type, times)) = read_object(&ROWS, alloc, value)?;
+        let (accepted_at, (lifetime, rest)) = times;
         let (refresh_token, (client_id, (token_url, ()))) = rest;
         Ok(StoredToken {
             access_token,
+            token_type,
             accepted_at,
             lifetime,
             refresh_token,
@@ -198,10 +206,8 @@ impl ToJson for StoredToken {
             &self.refresh_token,
             (&self.client_id, (&self.token_url, ())),
         );
-        let values = (
-            &self.access_token,
-            (&self.accepted_at, (lifetime_of(self), rest)),
-        );
+        let times = (&self.accepted_at, (lifetime_of(self), rest));
+        let values = (&self.access_token, (&self.token_type, times));
         Ok(object_of(&ROWS, alloc, values)?)
     }
 }

@@ -14,7 +14,7 @@ returns-clause-reads_back c =
     let url = option_map string_bytes s.token_url in
     let same = rw (← c.self.view_is) at c.lifetime_of.ensures.same in
     rw (← c.self.view_is, ← same, c.in_ok-object_of.ensures)
-    (object_read_back stored_table (stored_token s.access_token moment.nanosecond lifetime s.refresh_token s.client_id url)
-    (s.access_token, (moment.nanosecond, (lifetime, (s.refresh_token, (s.client_id, (url, tt)))))) refl
-    (refl, (moment_back (codes "accepted_at") (codes "accepted_at_nanoseconds") moment.nanosecond moment.in_range, (lifetime_back (codes "lifetime") (codes "lifetime_nanoseconds") lifetime c.lifetime_of.ensures.fits, (optional-text _ s.refresh_token, (optional-text _ s.client_id, (optional-text _ url, tt))))))
+    (object_read_back stored_table (stored_token s.access_token (string_bytes s.token_type) moment.nanosecond lifetime s.refresh_token s.client_id url)
+    (s.access_token, (string_bytes s.token_type, (moment.nanosecond, (lifetime, (s.refresh_token, (s.client_id, (url, tt))))))) refl
+    (refl, (refl, (moment_back (codes "accepted_at") (codes "accepted_at_nanoseconds") moment.nanosecond moment.in_range, (lifetime_back (codes "lifetime") (codes "lifetime_nanoseconds") lifetime c.lifetime_of.ensures.fits, (optional-text _ s.refresh_token, (optional-text _ s.client_id, (optional-text _ url, tt)))))))
     Stored stored_token)
