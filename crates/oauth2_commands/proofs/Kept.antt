@@ -18,7 +18,7 @@ use Rattle.oauth2_wire.specs.Once.{AsksOnce}
 use Rattle.oauth2_wire.specs.Request.{RequestView, IsRequestOf, view_of}
 use Rattle.oauth2_keeper.specs.Keeper.{Keeper, AcceptedToken, KeeperCalls, renewal}
 use Rattle.oauth2_keeper.specs.Keeper.{quiet, accepted, failed}
-use Rattle.oauth2_keeper.specs.Patience.{Patient, PatientCalls}
+use Rattle.oauth2_keeper.specs.Patience.{Patient, without_other_type, UsableCalls, PatientCalls}
 use Rattle.oauth2_keeper.specs.declared.patient_keeper.PatientError.TheVariants as patient
 use Rattle.oauth2_request_commands.proofs.Joined.{joined-assoc, joined-nothing}
 use Rattle.oauth2_request_commands.specs.Client.{WithEndpoint, WithToken, missing}
@@ -127,17 +127,23 @@ module _ (before mid : ScriptedClient) (fed : mid.is_starved ≡ false) where
   module _ (keeper kept : Patient) (now : ℤ) where
     abbrev PatientlyCalls : Result Unit KeeperFault → Type 0
     PatientlyCalls result =
-        PatientCalls AsksForRenewal given_in (λ _. None) keeper now before result mid kept
+        UsableCalls AsksForRenewal given_in (λ _. None) keeper now before result mid kept
 
     abbrev PatientlyCallsSo : Result Unit KeeperFault → ReplayClient → Type 0
     PatientlyCallsSo result last =
-        PatientCalls AsksForToken given_in (λ _. None) keeper now start result last kept
+        UsableCalls AsksForToken given_in (λ _. None) keeper now start result last kept
 
     called : (result : Result Unit KeeperFault) → PatientlyCalls result
         → Seen (PatientlyCallsSo result)
-    called (Ok done) (inl (free, calls, is)) =
+    called (Ok done) (inl (free, calls, usable, is)) =
         seen_map (CallsSo keeper.keeper kept.keeper now (Ok tt)) (PatientlyCallsSo (Ok done))
-        (λ last so. inl (free, so, is)) (keeper_called keeper.keeper kept.keeper now (Ok tt) calls)
+        (λ last so. inl (free, so, usable, is))
+        (keeper_called keeper.keeper kept.keeper now (Ok tt) calls)
+    called (Err patient.OtherTokenType) (free, (got, calls, other, is)) =
+        seen_map (CallsSo keeper.keeper got now (Ok tt))
+        (PatientlyCallsSo (Err patient.OtherTokenType))
+        (λ last so. (free, (got, so, other, is)))
+        (keeper_called keeper.keeper got now (Ok tt) calls)
     called (Ok done) (inr (held, same, is)) =
         uncalled_seen (PatientlyCallsSo (Ok done)) same (inr (held, refl, is))
     called (Err (patient.Request error)) (free, calls, is) =
@@ -148,15 +154,17 @@ module _ (before mid : ScriptedClient) (fed : mid.is_starved ≡ false) where
         uncalled_seen (PatientlyCallsSo (Err (patient.Waits until))) same
         (held, is_until, refl, is)
 
+  module _ (keeper kept : Patient) (now : ℤ) where
     -- a call and what is shown of it
-    pub call_told : (result : Result Unit KeeperFault) → PatientlyCalls result
+    pub call_told : (result : Result Unit KeeperFault)
+        → PatientCalls AsksForRenewal given_in (λ _. None) keeper now before result mid kept
         → (shown : Output) → IsShown kept.keeper.token result shown
         → (new : List Event) (s : RunStatus) → AddsOutput mid.events new s shown
         → (before.is_starved ≡ false)
         × CallAdds (standing keeper before) (standing kept mid) before.events new s now
     unfolding IsCall
     call_told result calls shown is_shown new s adds =
-        let seen = called result calls in
+        let seen = called (without_other_type keeper) kept now result calls in
         let all : new ≡ before.events ++ (seen.0 ++ shown.events) =
         adds.0 ∙ ap (λ (events : List Event). events ++ shown.events) seen.2
         ∙ append_assoc before.events seen.0 shown.events in (

@@ -1,8 +1,8 @@
 -- The command `keeper`: a keeper of the client's token, called once at each reading.
 use Rattle.std.specs.Prelude.{◌≡◌, ℕ, ℤ, pos, int_div, ◌*◌, false, Result, Ok, Err}
-use Rattle.std.specs.Prelude.{List, [], ◌∷◌, ◌++◌, Option, None, option_map, unwrap_or, IsSomeAnd}
+use Rattle.std.specs.Prelude.{List, [], ◌∷◌, ◌++◌, Option, None, option_map, unwrap_or, IsSomeAnd, codes}
 use Rattle.jiff_core.specs.declared.timestamp.Timestamp.{Timestamp}
-use Rattle.oauth2_codes.specs.Codes.{token_code}
+use Rattle.oauth2_codes.specs.Codes.{token_code, token_code_text}
 use Rattle.oauth2_codes.specs.ErrorCodes.{error_code, error_code_text}
 use Rattle.oauth2_codes.specs.ErrorResponse.{parts_of}
 use Rattle.oauth2_codes.specs.declared.basic_error.BasicErrorResponseType.{BasicErrorResponseType}
@@ -20,11 +20,12 @@ use Rattle.oauth2.specs.Settings.{Settings}
 use Rattle.oauth2_keeper.specs.Keeper.{AcceptedToken, Keeper, Given}
 use Rattle.oauth2_keeper.specs.Patience.{Patient, PatientCalls}
 use Rattle.oauth2_keeper.specs.declared.patient_keeper.PatientError.{PatientError}
-use Rattle.oauth2_keeper.specs.declared.patient_keeper.PatientError.TheVariants.{Request, Waits}
+use Rattle.oauth2_keeper.specs.declared.patient_keeper.PatientError.TheVariants.{Request, Waits, OtherTokenType}
 use Rattle.oauth2_request_commands.specs.Client.{WithToken}
 use Rattle.oauth2_request_commands.specs.Exchange.{BasicToken, error_members, token_answer}
 use Rattle.oauth2_request_commands.specs.Faults.{fault_output}
 use Rattle.oauth2_request_commands.specs.Out.{Output, after, nothing, both_outputs, success_output}
+use Rattle.oauth2_request_commands.specs.Out.{failure_output}
 use Rattle.oauth2_request_commands.specs.declared.status.RunStatus.TheVariants as status
 use Rattle.oauth2_script.specs.KeeperParams.{KeeperParams}
 use Rattle.oauth2_script.specs.Replies.{Reply}
@@ -32,6 +33,7 @@ use Rattle.oauth2_world.specs.Events.{Event, exchanged, waits}
 use Rattle.oauth2_world.specs.Quotation.{quotation}
 use Rattle.oauth2_world.specs.Replay.{reply_seen}
 use Rattle.oauth2_world.specs.Replies.{next_reply, later_replies}
+use Rattle.oauth2_world.specs.declared.event.FaultKind.TheVariants as kind
 use Rattle.oauth2_world.specs.declared.replay.NoReply.{NoReply}
 
 -- ---- the responses
@@ -51,6 +53,7 @@ ErrorResponse = StandardErrorResponse BasicErrorResponseType
 abbrev pub given_in : TokenResponse → Given
 given_in response = record {
   access_token = (token_in response).access_token;
+  token_type = token_code_text (token_in response).token_type;
   lifetime = option_map (λ seconds. seconds * 1_000_000_000) (token_in response).expires_in;
   refresh_token = (token_in response).refresh_token;
 }
@@ -87,7 +90,7 @@ waiting until = record {
   status = status.Fault;
 }
 
--- why a keeper has no good token: the fault of its request, or its wait
+-- why a keeper has no good token: the fault of its request, its wait, or the type of the token
 abbrev pub KeeperFault : Type 0
 KeeperFault = PatientError NoReply ErrorResponse
 
@@ -95,6 +98,8 @@ abbrev pub keeper_fault : KeeperFault → Output
 keeper_fault (Request error) =
     fault_output (λ response. error_members error_code_text (parts_of error_code response)) error
 keeper_fault (Waits until) = waiting until
+keeper_fault OtherTokenType =
+    failure_output kind.OtherTokenType (codes "The server gave a token of another type")
 
 -- what is shown of a call: the kept token as a JSON string, or why there is none
 abbrev pub IsShown : Option AcceptedToken → Result Unit KeeperFault → Output → Type 0
@@ -143,11 +148,12 @@ new_keeper client p = record {
   refresh_token = p.refresh;
 }
 
--- that keeper with its wait after a request that failed, in nanoseconds; a wait of 0 holds back no
--- call
-abbrev pub waiting_keeper : Keeper → Option ℕ → Patient
-waiting_keeper keeper retry_after = record {
+-- that keeper with its wait after a request that failed, in nanoseconds, and the types of tokens
+-- that it hands out; a wait of 0 holds back no call
+abbrev pub waiting_keeper : Keeper → Option ℕ → Option (List (List ℕ)) → Patient
+waiting_keeper keeper retry_after token_types = record {
   keeper = keeper;
+  token_types = token_types;
   least_wait = unwrap_or retry_after 0;
   most_asked_wait = 0;
   wait = unwrap_or retry_after 0;
@@ -158,7 +164,7 @@ waiting_keeper keeper retry_after = record {
 -- the state before the first call: it does not wait, and all replies are left
 abbrev pub new_standing : Settings → KeeperParams → List Reply → Standing
 new_standing client p replies =
-    record { keeper = waiting_keeper (new_keeper client p) p.retry_after; replies = replies }
+    record { keeper = waiting_keeper (new_keeper client p) p.retry_after p.token_types; replies = replies }
 
 -- the output of `keeper`: that of its calls, or that no token endpoint is set
 abbrev pub IsKeeperOutput : Settings → KeeperParams → List ℤ → List Reply → Output → Type 0

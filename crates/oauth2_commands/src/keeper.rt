@@ -1,7 +1,7 @@
 //! The command `keeper`: a keeper of the client's token, called once at each reading.
 
 ghost use Rattle.std.specs.Prelude.{◌≡◌, ◌++◌, Some, false};
-ghost use Rattle.std.specs.Prelude.{IfOk, map};
+ghost use Rattle.std.specs.Prelude.{IfOk, map, option_map, string_bytes};
 ghost use Rattle.oauth2_commands.specs.Keeper as spec;
 ghost use Rattle.oauth2_request_commands.specs.Out.{Adds};
 ghost use Rattle.oauth2_commands.specs.private.Kept.{standing, CallsAdd, AreKept};
@@ -80,11 +80,98 @@ fn add_extra<'a>(
     Ok(())
 }
 
+// Adds the texts of these, in order.
+fn push_texts<'a>(texts: &mut Vec<&'a str>, strings: &'a [String]) -> Result<(), AllocError>
+    ensures { IfOk result (λ done. map (λ text. text.now) texts.new.items
+        ≡ map (λ text. text.now) texts.old.items ++ map string_bytes strings.now) }
+{
+    for string in strings {
+        texts.push(string.as_str())?;
+    }
+    Ok(())
+}
+
+// Makes a keeper with these extra parameters, which hands out tokens of the types with these texts,
+// calls it at each reading, and shows each result.
+fn show_keeper_of_texts<'a>(
+    alloc: Global,
+    client: &'a KeptClient,
+    params: KeeperParams,
+    extra_params: &'a [(String, String)],
+    texts: Option<&'a [&'a str]>,
+    readings: &[jiff_core::Timestamp],
+    http_client: &mut ScriptedClient,
+) -> Result<RunStatus, AllocError>
+    ensures { IfOk result (λ status. http_client.new.is_starved ≡ false
+        → Adds http_client.old.events http_client.new.events status
+        (AreKept client.now (record (keeper_view params) {
+          extra_params = map pair_texts extra_params.now;
+          token_types = option_map (λ list. map (λ text. text.now) list.now) texts.entry;
+        }) (map (λ t. t.nanosecond) readings.now) (client_replies http_client.old))) }
+{
+    let KeeperParams {
+        margin,
+        life,
+        refresh,
+        scopes,
+        extra_params: _,
+        retry_after,
+        token_types: _,
+    } = params;
+    let mut keeper = TokenKeeper::new(client, refresh, margin, life);
+    keeper.add_scopes(alloc, scopes)?;
+    add_extra(alloc, &mut keeper, extra_params)?;
+    let mut keeper = waiting_keeper(keeper, retry_after, texts);
+    show_calls(alloc, &mut keeper, readings, http_client)
+}
+
+// The same, where the types are these.
+fn show_keeper_of_types<'a>(
+    alloc: Global,
+    client: &'a KeptClient,
+    params: KeeperParams,
+    extra_params: &'a [(String, String)],
+    token_types: &'a Option<Vec<String>>,
+    readings: &[jiff_core::Timestamp],
+    http_client: &mut ScriptedClient,
+) -> Result<RunStatus, AllocError>
+    ensures { IfOk result (λ status. http_client.new.is_starved ≡ false
+        → Adds http_client.old.events http_client.new.events status
+        (AreKept client.now (record (keeper_view params) {
+          extra_params = map pair_texts extra_params.now;
+          token_types = option_map (λ list. map string_bytes list.items) token_types.now;
+        }) (map (λ t. t.nanosecond) readings.now) (client_replies http_client.old))) }
+{
+    let Some(strings) = token_types else {
+        let texts = None;
+        return show_keeper_of_texts(
+            alloc,
+            client,
+            params,
+            extra_params,
+            texts,
+            readings,
+            http_client,
+        );
+    };
+    let mut texts = Vec::new(alloc);
+    push_texts(&mut texts, strings.as_slice())?;
+    show_keeper_of_texts(
+        alloc,
+        client,
+        params,
+        extra_params,
+        Some(texts.as_slice()),
+        readings,
+        http_client,
+    )
+}
+
 // Makes a keeper, calls it at each reading, and shows each result.
 fn show_new_keeper(
     alloc: Global,
     client: &KeptClient,
-    params: KeeperParams,
+    mut params: KeeperParams,
     readings: &[jiff_core::Timestamp],
     http_client: &mut ScriptedClient,
 ) -> Result<RunStatus, AllocError>
@@ -93,19 +180,17 @@ fn show_new_keeper(
         (AreKept client.now (keeper_view params) (map (λ t. t.nanosecond) readings.now)
         (client_replies http_client.old))) }
 {
-    let KeeperParams {
-        margin,
-        life,
-        refresh,
-        scopes,
-        extra_params,
-        retry_after,
-    } = params;
-    let mut keeper = TokenKeeper::new(client, refresh, margin, life);
-    keeper.add_scopes(alloc, scopes)?;
-    add_extra(alloc, &mut keeper, extra_params.as_slice())?;
-    let mut keeper = waiting_keeper(keeper, retry_after);
-    show_calls(alloc, &mut keeper, readings, http_client)
+    let token_types = params.token_types.take();
+    let extra_params = std::mem::replace(&mut params.extra_params, Vec::new(alloc));
+    show_keeper_of_types(
+        alloc,
+        client,
+        params,
+        extra_params.as_slice(),
+        &token_types,
+        readings,
+        http_client,
+    )
 }
 
 /// Calls a keeper at each reading, and shows each request and each result.

@@ -1,6 +1,6 @@
 //! The keeper of the command `keeper`, and what one call of it shows.
 
-ghost use Rattle.std.specs.Prelude.{◌≡◌, false, pos, int_div, option_map, IfOk};
+ghost use Rattle.std.specs.Prelude.{◌≡◌, false, pos, int_div, map, option_map, IfOk};
 ghost use Rattle.std.specs.Duration.{as_nanos};
 ghost use Rattle.oauth2_commands.specs.Keeper as spec;
 ghost use Rattle.oauth2_commands.specs.private.Kept.{standing, CallAdds};
@@ -11,8 +11,8 @@ use jiff::Timestamp;
 use oauth2::basic::BasicErrorResponse;
 use oauth2::{AccessToken, EndpointMaybeSet};
 use oauth2_keeper::{BasicPatientKeeper, BasicTokenKeeper, PatientError};
-use oauth2_request_commands::{RunStatus, add_answer, show_fault};
-use oauth2_world::{Event, Events, NoReply, ScriptedClient, quoted};
+use oauth2_request_commands::{RunStatus, add_answer, show_error_text, show_fault};
+use oauth2_world::{Event, Events, FaultKind, NoReply, ScriptedClient, quoted};
 use std::alloc::{AllocError, Global};
 use std::time::Duration;
 
@@ -34,17 +34,24 @@ pub type ScriptKeeper<'a> = BasicPatientKeeper<
     EndpointMaybeSet,
 >;
 
-/// The keeper with a wait of `retry_after` after a request that failed; `None` means no wait.
+/// The keeper with a wait of `retry_after` after a request that failed; `None` means no wait. It
+/// hands out tokens of these types; `None` means any.
 pub fn waiting_keeper<'a>(
     keeper: PlainKeeper<'a>,
     retry_after: Option<Duration>,
+    token_types: Option<&'a [&'a str]>,
 ) -> ScriptKeeper<'a>
-    ensures { result
-        ≡ spec.waiting_keeper keeper.entry (option_map as_nanos retry_after) }
+    ensures { result ≡ spec.waiting_keeper keeper.entry (option_map as_nanos retry_after)
+        (option_map (λ names. map (λ name. name.now) names.now) token_types.entry) }
 {
-    match retry_after {
-        Some(wait) => keeper.set_retry_after(wait),
-        None => keeper.set_retry_after(Duration::ZERO),
+    let wait = match retry_after {
+        Some(wait) => wait,
+        None => Duration::ZERO,
+    };
+    let keeper = keeper.set_retry_after(wait);
+    match token_types {
+        Some(token_types) => keeper.expecting_token_types(token_types),
+        None => keeper.expecting_any_token_type(),
     }
 }
 
@@ -93,6 +100,9 @@ fn show_error(
     match error {
         PatientError::Request(fault) => show_fault(alloc, events, fault),
         PatientError::Waits(until) => show_wait(events, *until),
+        PatientError::OtherTokenType => {
+            show_error_text(alloc, events, FaultKind::OtherTokenType, error)
+        }
     }
 }
 

@@ -13,6 +13,7 @@ kind_word kind.InsecureEndpoint = codes "insecure_endpoint"
 kind_word kind.RequestFailed = codes "request_failed"
 kind_word kind.ErrorResponse = codes "error_response"
 kind_word kind.UnreadReply = codes "unread_reply"
+kind_word kind.OtherTokenType = codes "other_token_type"
 kind_word kind.OtherError = codes "other_error"
 kind_word kind.OutOfMemory = codes "out_of_memory"
 kind_word kind.RefusedRedirect = codes "refused_redirect"
@@ -40,7 +41,8 @@ kinds =
     ∷ kind.RequestFailed
     ∷ kind.ErrorResponse
     ∷ kind.UnreadReply ∷
-    kind.OtherError
+    kind.OtherTokenType
+    ∷ kind.OtherError
     ∷ kind.OutOfMemory
     ∷ kind.RefusedRedirect
     ∷ kind.OtherClient

@@ -18,6 +18,7 @@ pub fn kind_word(kind: FaultKind) -> &'static str
         FaultKind::RequestFailed => "request_failed",
         FaultKind::ErrorResponse => "error_response",
         FaultKind::UnreadReply => "unread_reply",
+        FaultKind::OtherTokenType => "other_token_type",
         FaultKind::OtherError => "other_error",
         FaultKind::OutOfMemory => "out_of_memory",
         FaultKind::RefusedRedirect => "refused_redirect",
@@ -49,6 +50,7 @@ pub fn kinds_text() -> &'static str
      request_failed\n\
      error_response\n\
      unread_reply\n\
+     other_token_type\n\
      other_error\n\
      out_of_memory\n\
      refused_redirect\n\

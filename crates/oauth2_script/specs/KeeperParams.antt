@@ -2,7 +2,7 @@
 use Rattle.std.specs.Prelude.{ℕ, List, Option, Ok, codes}
 use Rattle.serde_json.specs.Data.{Data}
 use Rattle.oauth2_script_values.specs.Reading.{Reading, ◌>>=◌}
-use Rattle.oauth2_script_values.specs.Part.{list_part, needed_part, present_part, duration, text}
+use Rattle.oauth2_script_values.specs.Part.{list_of, list_part, needed_part, present_part, duration, text}
 use Rattle.oauth2_script.specs.Sent.{sent_params}
 
 -- the parameters of a new keeper; lengths of time in nanoseconds
@@ -19,6 +19,8 @@ pub record KeeperParams : Type 0 where
   pub extra_params : List (List ℕ × List ℕ)
   -- how long the keeper makes no request after a failed one
   pub retry_after : Option ℕ
+  -- the types of tokens that the keeper hands out; any if `None`
+  pub token_types : Option (List (List ℕ))
 
 -- reads `params`; `margin` and `life` have to be present
 unfoldable pub keeper_params : Data → Reading KeeperParams
@@ -29,4 +31,5 @@ keeper_params d = do
   scopes ← list_part text (codes "scopes") d
   extra_params ← sent_params d
   retry_after ← present_part duration (codes "retry_after") d
-  Ok (record { margin = margin; life = life; refresh = refresh; scopes = scopes; extra_params = extra_params; retry_after = retry_after })
+  token_types ← present_part (list_of text) (codes "token_types") d
+  Ok (record { margin = margin; life = life; refresh = refresh; scopes = scopes; extra_params = extra_params; retry_after = retry_after; token_types = token_types })

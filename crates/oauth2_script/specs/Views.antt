@@ -183,6 +183,7 @@ keeper_view p = record {
   scopes = p.scopes.items;
   extra_params = map (λ e. (string_bytes e.0, string_bytes e.1)) p.extra_params.items;
   retry_after = option_map as_nanos p.retry_after;
+  token_types = option_map (λ names. map string_bytes names.items) p.token_types;
 }
 
 -- the parameters of the command `shared_keeper` as contracts see them

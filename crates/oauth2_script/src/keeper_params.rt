@@ -22,6 +22,8 @@ pub struct KeeperParams {
     pub extra_params: Vec<(String, String)>,
     /// How long the keeper makes no request after one that failed.
     pub retry_after: Option<Duration>,
+    /// The types of tokens that the keeper hands out; `None` if any.
+    pub token_types: Option<Vec<String>>,
 }
 
 impl Part for KeeperParams {
@@ -41,6 +43,7 @@ impl Part for KeeperParams {
         let scopes = listed(alloc, value, "scopes")?;
         let extra_params = sent_params(alloc, value)?;
         let retry_after = optional(alloc, value, "retry_after")?;
+        let token_types = optional(alloc, value, "token_types")?;
         Ok(KeeperParams {
             margin,
             life,
@@ -48,6 +51,7 @@ impl Part for KeeperParams {
             scopes,
             extra_params,
             retry_after,
+            token_types,
         })
     }
 }

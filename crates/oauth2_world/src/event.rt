@@ -23,6 +23,8 @@ pub enum FaultKind {
     ErrorResponse,
     /// The body of the reply cannot be read.
     UnreadReply,
+    /// The server gave a token of a type that the caller can't use (RFC 6749, section 7.1).
+    OtherTokenType,
     /// Another fault of a request, which its text tells.
     OtherError,
     /// Memory ran out inside a call of the client.

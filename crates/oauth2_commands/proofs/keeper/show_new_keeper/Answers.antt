@@ -1,34 +1,24 @@
-use Rattle.std.proofs.Common.{◌≡◌, length, refl, rules, subst, ap, ◌∙◌}
-use Rattle.std.specs.Vec.Iter.{into_iter_len}
-use Rattle.std.proofs.lemmas.Result.{IfOk-weaker}
-use Rattle.oauth2_form.specs.Params.{with_scopes}
-use Rattle.oauth2_keeper.specs.Patience.{Patient}
+use Rattle.std.proofs.Common.{◌≡◌, false, map, rules, subst}
+use Rattle.std.specs.Prelude.{IfOk, option_map, string_bytes}
+use Rattle.oauth2_request_commands.specs.Out.{Adds}
+use Rattle.oauth2_script.specs.KeeperParams.{KeeperParams}
 use Rattle.oauth2_script.specs.Views.{keeper_view}
+use Rattle.oauth2_wire.specs.ServerView.{pair_texts}
 use Rattle.oauth2_world.specs.Replay.{client_replies}
-use Rattle.oauth2_commands.specs.Keeper.{Standing, AreCalls, new_standing}
-use Rattle.oauth2_commands.specs.private.Kept.{standing}
+use Rattle.oauth2_commands.specs.private.Kept.{AreKept}
 use Rattle.oauth2_commands.proofs.Kept.{moments_of}
-use Rattle.oauth2_request_commands.proofs.Scopes.{every_item}
 use Rattle.oauth2_commands.proofs.keeper.show_new_keeper.Goals as goal
 
 pub returns : goal.returns
 returns c =
-    let p = keeper_view c.args.params in
-    let client = c.args.http_client.now in
-    let h = c.in_ok-add_scopes.ensures.ok in
-    let count : into_iter_len h.0 ≡ length c.args.params.scopes.items = h.2.1 ∙ search rules in
-    let scoped : c.add_scopes.new.self ≡ record c.new-keeper.result { scope = with_scopes c.new-keeper.result.scope c.args.params.scopes.items } =
-    h.4 ∙ ap (λ added. record c.new-keeper.result { scope = with_scopes c.new-keeper.result.scope added }) (every_item h.0 c.args.params.scopes.items h.1 h.2.0 count h.3) in
-    let made : standing c.waiting_keeper-keeper.result client ≡ new_standing c.args.client.now p (client_replies client) =
-    ap (λ (keeper : Patient). standing keeper client) c.waiting_keeper-keeper.ensures
-    ∙ rw (c.in_ok-add_extra.ensures, scoped, c.new-keeper.ensures, c.as_slice.ensures.value) refl in
-    let kept = standing c.show_calls.new.keeper c.show_calls.new.http_client in
-    IfOk-weaker c.show_calls.result _ _
-    (λ status shown. λ fed.
-    (let all = shown fed in (
-      all.0,
-      (kept, subst (λ (w : Standing). AreCalls w (moments_of c.args.readings.now) all.0 kept) made all.1),
-      all.2.0,
-      all.2.1,
-    )))
-    c.show_calls.ensures
+    let last = c.show_keeper_of_types.new.http_client in
+    subst
+    (λ (p : KeeperParams). IfOk c.show_keeper_of_types.result
+    (λ status. last.is_starved ≡ false
+    → Adds c.args.http_client.now.events last.events status
+    (AreKept c.args.client.now p (moments_of c.args.readings.now) (client_replies c.args.http_client.now))))
+    {x = record (keeper_view c.args.params) {
+      extra_params = map pair_texts c.as_slice.result.now;
+      token_types = option_map (λ list. map string_bytes list.items) c.take-token_types.result;
+    }}
+    {y = keeper_view c.args.params} (search rules) c.show_keeper_of_types.ensures

@@ -6,5 +6,5 @@ use Rattle.oauth2_script.proofs.keeper_params.KeeperParamsPart.from_value.Goals 
 pub returns-clause-read : goal.returns-clause-read
 unfolding keeper_params
 returns-clause-read c =
-    rw (c.in_ok-margin.ensures.read, c.in_ok-life.ensures.read, c.in_ok-refresh.ensures.read, c.in_ok-scopes.ensures, c.in_ok-extra_params.ensures, c.in_ok-retry_after.ensures.read)
+    rw (c.in_ok-margin.ensures.read, c.in_ok-life.ensures.read, c.in_ok-refresh.ensures.read, c.in_ok-scopes.ensures, c.in_ok-extra_params.ensures, c.in_ok-retry_after.ensures.read, c.in_ok-token_types.ensures.read)
     (simp (option_map_id, map-id))
