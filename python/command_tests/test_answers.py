@@ -91,7 +91,8 @@ class Answers(stand_in.Case):
 
     def test_what_no_header_may_have_is_refused(self):
         for reply, form, said in (({**OK, 'access_token': 'a\r\nb'}, 'token', 'a character that no header may have'),
-                                  ({**OK, 'token_type': 'mac'}, 'header', 'the token is of the type "mac"')):
+                                  ({**OK, 'token_type': 'mac'}, 'header', 'the token is of the type "mac"'),
+                                  ({**OK, 'token_type': 'mac'}, 'token', 'the token is of the type "mac"')):
             self.server.reply = reply
             status, out, err = self.run_tool('token', '--output', form)
             self.assertEqual((status, out), (125, ''))

@@ -16,7 +16,7 @@ if TYPE_CHECKING:
     from ._errors import (BadAccessToken, BadClaims, BadIssuer, BadKeys, BadMetadata, BadPush, BadScript, BadSignature,
                           BadToken, Ended, ErrorResponse, InsecureEndpoint, LifecribError, MissingEndpoint,
                           OtherClient, OtherError, OtherIssuer, OtherRedirectUri, OtherStatus, OtherTokenEndpoint,
-                          OutOfMemory, RefusedRedirect, RequestFailed, TakenParameter, UnboundLogin,
+                          OtherTokenType, OutOfMemory, RefusedRedirect, RequestFailed, TakenParameter, UnboundLogin,
                           UncheckedSignature, UnreadReply, Waiting)
     from ._library import Run, run_script
     from ._transport import (AiohttpTransport, AsyncHttpxTransport, AsyncTransport, HttpxTransport, RequestsTransport,
@@ -28,8 +28,8 @@ __all__ = [
     'AsyncTransport', 'BadAccessToken', 'BadClaims', 'BadIssuer', 'BadKeys', 'BadMetadata', 'BadPush', 'BadScript',
     'BadSignature', 'BadToken', 'Claims', 'Client', 'Device', 'Ended', 'ErrorResponse', 'HttpxTransport',
     'InsecureEndpoint', 'Introspection', 'Keeper', 'LifecribError', 'Login', 'Metadata', 'MissingEndpoint',
-    'OtherClient', 'OtherError', 'OtherIssuer', 'OtherRedirectUri', 'OtherStatus', 'OtherTokenEndpoint', 'OutOfMemory',
-    'RefusedRedirect', 'Reply', 'Request', 'RequestFailed', 'RequestsTransport', 'Run', 'TakenParameter',
+    'OtherClient', 'OtherError', 'OtherIssuer', 'OtherRedirectUri', 'OtherStatus', 'OtherTokenEndpoint',
+    'OtherTokenType', 'OutOfMemory', 'RefusedRedirect', 'Reply', 'Request', 'RequestFailed', 'RequestsTransport', 'Run', 'TakenParameter',
     'ThreadTransport', 'Token', 'TooLarge', 'Transport', 'UnboundLogin', 'UncheckedSignature', 'UnreadReply',
     'UrllibTransport', 'Waiting', 'check_access_token', 'run_script']
 _MODULES = ('_errors', '_library', '_data', '_calls', '_transport', '_client')  # the last ones take longest to load

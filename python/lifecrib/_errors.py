@@ -82,6 +82,12 @@ class UnreadReply(LifecribError):
     kind = 'unread_reply'
 
 
+class OtherTokenType(LifecribError):
+    """The server gave a token of a type that was not expected (RFC 6749, 7.1). It is not held; its refresh token is."""
+
+    kind = 'other_token_type'
+
+
 class OtherError(LifecribError):
     """The reply has another Content-Type, or no body; the polls of a device have come to their limit; or a login
     with OpenID Connect got no Bearer token."""
@@ -222,7 +228,8 @@ class BadScript(LifecribError, ValueError):
 
 
 KINDS = {it.kind: it for it in (
-    MissingEndpoint, InsecureEndpoint, RequestFailed, ErrorResponse, UnreadReply, OtherError, OutOfMemory,
+    MissingEndpoint, InsecureEndpoint, RequestFailed, ErrorResponse, UnreadReply, OtherTokenType, OtherError,
+    OutOfMemory,
     RefusedRedirect, OtherClient, OtherTokenEndpoint, OtherRedirectUri, OtherStatus, BadMetadata, OtherIssuer,
     BadIssuer, BadToken, BadClaims, BadSignature, UncheckedSignature, BadKeys, BadAccessToken, TakenParameter,
     BadPush)}

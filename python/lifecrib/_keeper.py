@@ -8,7 +8,7 @@ from typing import Any, Callable, Generic, Iterator, Mapping, Optional, TypeVar
 from . import _calls, _json, _library
 from ._calls import Call, Pairs, Settings, Texts
 from ._data import Token, token_of, without_none
-from ._errors import Ended
+from ._errors import Ended, OtherTokenType
 
 S = TypeVar('S', bound=Settings)
 
@@ -19,11 +19,12 @@ class KeeperState(Generic[S]):
 
     def __init__(self, client: S, token: Optional[Token] = None, *, scopes: Texts = (), margin: int = 60,
                  life: int = 3600, retry_after: Optional[int] = None, on_token: Optional[Callable[[Token], Any]] = None,
-                 extra: Pairs = (), resource: Texts = (), client_assertion: Optional[str] = None) -> None:
+                 token_types: Optional[Texts] = ('Bearer',), extra: Pairs = (), resource: Texts = (),
+                 client_assertion: Optional[str] = None) -> None:
         self.client, self._is_of_a_user = client, token is not None
         self._params: dict[str, Any] = {
             **_calls.more(extra, resource, client_assertion, scopes), 'margin': margin, 'life': life,
-            'retry_after': retry_after}
+            'retry_after': retry_after, 'token_types': None if token_types is None else _calls.texts(token_types)}
         self._on_token, self._is_told, self._retry_after = on_token, True, retry_after
         self._lock = self._new_lock()
         self._start(token)
@@ -74,7 +75,8 @@ class KeeperState(Generic[S]):
 
 def good_token(self: KeeperState[Any]) -> Call[Token]:
     """A token that is good for at least the margin: the one that is held, or a new one. Waiting if a request failed
-    less than retry_after seconds ago."""
+    less than retry_after seconds ago. OtherTokenType if the new one is of another type than token_types: then its
+    refresh token is held alone."""
     at = _calls.now()
     run = self._run(self._replies, at)
     exchanges = run.exchanges
@@ -95,11 +97,14 @@ def good_token(self: KeeperState[Any]) -> Call[Token]:
         reply, why = {'fail': True}, failed
     run = self._run([*self._replies, reply], at)
     if run.last['event'] != 'answer':
+        error = run.error()
+        if isinstance(error, OtherTokenType):
+            self._start(None, _new_token(self, sent.get('refresh_token'), reply, at).refresh_token)
         held = 1 if self._token else 0
         self._replies, self._readings = [*self._replies[:held], reply], [*self._readings[:held], at]
         if why:
-            raise why.named(run.error()) from why.__cause__
-        raise run.error()
+            raise why.named(error) from why.__cause__
+        raise error
     self._token, self._is_told = _new_token(self, sent.get('refresh_token'), reply, at), False
     self._refresh, self._replies, self._readings = sent.get('refresh_token'), [reply], [at]
     return self._token

@@ -114,12 +114,12 @@ def with_end(text: str, ends: Optional[int]) -> str:
     return object_of([*found, (EXPIRES, 'null' if ends is None else json.dumps(moment(ends)))])
 
 
-def token_in(text: str, is_bearer: bool = True) -> str:
-    """The access token of an answer. Stops where it can't be sent, or is not of the type bearer."""
+def token_in(text: str, types: Collection[str] = ('bearer',)) -> str:
+    """The access token of an answer. Stops where it can't be sent, or is of none of these types (RFC 6749, 7.1)."""
     token, kind = access_token_in(text), member(text, 'token_type')
     if not all('!' <= it <= '~' for it in token):
         raise Stop('the access token has a character that no header may have: take it from --output json')
-    if is_bearer and str(kind).lower() != 'bearer':
+    if str(kind).lower() not in types:
         raise Stop('the token is of the type "%s", and only for "bearer" this tool knows the header: take it from '
                    '--output json' % kind)
     return token
@@ -129,7 +129,8 @@ def in_form(text: str, output: str, ends: Optional[int] = None) -> str:
     """The answer in one of the forms of --output, with a token that ends then."""
     if output == 'json':
         return text
-    token = token_in(text, is_bearer=output != 'token')
+    # What is no access token is of the type N_A (RFC 8693, 2.2.1), and goes into no header.
+    token = token_in(text, ('bearer', 'n_a') if output == 'token' else ('bearer',))
     if output == 'exec-credential':
         from . import exec_credential
         return exec_credential.text_of(token, ends)

@@ -48,7 +48,7 @@ def whoami(session: Session, params: Params) -> int:
     if done or not session.user:
         return done
     from . import userinfo
-    url, token = session.settings['userinfo_url'], answers.access_token_in(session.text)
+    url, token = session.settings['userinfo_url'], answers.token_in(session.text)
     answers.put(userinfo.asked(url, token, given.timeout, session.user['sub']) + '\n')
     return 0
 

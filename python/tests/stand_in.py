@@ -293,6 +293,11 @@ class Stand:
         names = ('iss', 'sub', 'exp', 'iat', 'client_id', 'scope', 'jti')
         end(0, 'answer', answer={'active': True, 'aud': [claims['aud']], **{it: claims[it] for it in names}})
 
+    def understands(self, found):
+        """Whether a keeper hands out a token of this type (RFC 6749, 7.1)."""
+        types = self.params.get('token_types')
+        return types is None or found.lower() in [it.lower() for it in types]
+
     def keeper(self):
         refresh, token, failed_at, last = self.params.get('refresh'), None, None, None
         url, wait = self.endpoint('token_url', 'token'), self.params.get('retry_after')
@@ -321,6 +326,10 @@ class Stand:
                         'text': 'Server returned error response: ' + said['error'] if said else 'Request failed',
                         'error': said, 'unread': None}
                 failed_at = now
+            elif not self.understands(value['token_type']):
+                token, refresh, failed_at = None, value.get('refresh_token', refresh), now
+                last = {'event': 'fault', 'kind': 'other_token_type', 'text': 'The server gave a token of another type',
+                        'error': None, 'unread': None}
             else:
                 token = value['access_token'], now, value.get('expires_in', self.params['life'])
                 refresh = value.get('refresh_token', refresh)

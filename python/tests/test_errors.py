@@ -17,7 +17,7 @@ class Faults(Case):
         for kind, found in _errors.KINDS.items():
             self.assertEqual(found.__name__, ''.join(it.capitalize() for it in kind.split('_')))
             self.assertIs(getattr(lifecrib, found.__name__), found)
-        self.assertEqual(len(_errors.KINDS), 23)
+        self.assertEqual(len(_errors.KINDS), 24)
 
     def test_error_response(self):
         body = {'error': 'invalid_grant', 'error_description': 'who: you (see x)', 'error_uri': 'https://e/'}

@@ -87,6 +87,28 @@ class Keepers(Case):
         self.now += 30
         self.assertEqual(keeper.token().access_token, 't1')
 
+    def test_it_hands_out_no_token_of_another_type(self):
+        keeper, server = self.keeper(reply(1, refresh_token='r1', token_type='DPoP'), OSError(), reply(3), retry_after=30)
+        error = self.fails(lifecrib.OtherTokenType, keeper.token)
+        self.assertEqual((error.kind, keeper.refresh_token), ('other_token_type', 'r1'))
+        self.fails(lifecrib.Waiting, keeper.token)
+        self.now += 30
+        self.fails(lifecrib.RequestFailed, keeper.token)
+        self.now += 30
+        self.assertEqual((keeper.token().access_token, keeper.refresh_token), ('t3', 'r1'))
+        self.assertEqual([it.partition('refresh_token=')[2] for it in server.bodies], ['', 'r1', 'r1'])
+
+    def test_the_type_of_a_users_token(self):
+        token = Token('t0', 'dpop', expires_in=100, refresh_token='r0', asked_at=self.now)
+        keeper, server = self.keeper(reply(1, token_type='BEARER'), token=token)
+        self.assertEqual((keeper.token().access_token, keeper.refresh_token), ('t1', 'r0'))
+        self.assertEqual(len(server.requests), 1)
+
+    def test_other_types_that_are_expected(self):
+        for given in (['dpop', 'bearer'], 'Bearer DPoP', None):
+            keeper, server = self.keeper(reply(1, token_type='DPoP'), token_types=given)
+            self.assertEqual(keeper.token().access_token, 't1')
+
     def test_a_clock_that_is_set_back(self):
         keeper, server = self.keeper(OSError(), reply(1), retry_after=30)
         self.fails(lifecrib.RequestFailed, keeper.token)
