@@ -1,5 +1,5 @@
 -- The points of a curve: two with the same x are the same point or opposite, and the sum of two points is a point of the curve.
-use Rattle.std.proofs.Common.{◌≡◌, ℕ, zero, suc, ◌+◌, ◌-◌, ◌*◌, ◌/◌, ◌%◌, ◌<◌, ◌⊎◌, inl, inr, refl, sym, subst, arith, lit<}
+use Rattle.std.proofs.Common.{◌≡◌, ℕ, zero, suc, ◌+◌, ◌*◌, ◌/◌, ◌%◌, ◌<◌, ◌⊎◌, inl, inr, refl, sym, subst, arith, lit<}
 use Rattle.std.proofs.lemmas.Bool.{cases_eq}
 use Rattle.ecdsa_signatures.specs.Curve.{prime, coefficient, generator_x, generator_y, generator, IsOnCurve, Point, Infinity, Affine, difference, chord, tangent, third_x, third_y, sum, odd_part, multiples_of}
 use Rattle.ecdsa_signatures.specs.Signature.{found_point}

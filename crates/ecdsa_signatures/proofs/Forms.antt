@@ -1,5 +1,5 @@
 -- Numbers in Montgomery's form.
-use Rattle.std.proofs.Common.{◌≡◌, ℕ, ◌+◌, ◌-◌, ◌*◌, ◌%◌, ◌<◌, ◌≤◌, ◌↔◌, List, refl, sym, ap, ◌∙◌, arith, mod-lt, mod-eq_of_lt}
+use Rattle.std.proofs.Common.{◌≡◌, ℕ, ◌+◌, ◌-◌, ◌*◌, ◌%◌, ◌<◌, ◌≤◌, ◌↔◌, List, Bool, false, IsTrue, refl, sym, ap, ◌∙◌, arith, mod-lt, mod-eq_of_lt}
 use Rattle.std.proofs.Math.Nat.{mod-mod, zero-mod, add-mod_right}
 use Rattle.modular_arithmetic.specs.Limbs.{limb_weight}
 use Rattle.ecdsa_signatures.specs.Curve.{prime}
@@ -26,6 +26,10 @@ weight-unit P384 = record { same = refl }
 pub held-below : (c : EllipticCurve) (xs : List ℕ) → held c xs % prime c ≡ held c xs
 unfolding held
 held-below c xs = mod-mod (value c xs * weight_inverse c) (prime c)
+
+-- limbs that a comparison with 0 tells apart from it
+pub not_zero : (c : EllipticCurve) (xs : List ℕ) (is_zero : Bool) → IsTrue is_zero ↔ (held c xs ≡ 0) → is_zero ≡ false → held c xs % prime c ≡ 0 → ⊥
+not_zero c xs is_zero told false-is e = let true-is = told.1 (sym (held-below c xs) ∙ e) in grind arith
 
 pub held-lt : (c : EllipticCurve) (xs : List ℕ) → held c xs < prime c
 unfolding held

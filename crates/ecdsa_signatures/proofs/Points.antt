@@ -188,6 +188,13 @@ pub record Compared (p X Y Z u v w s t h r : ℕ) : Type 0 where
   pub h-is : Same p (h + X) s
   pub r-is : Same p (r + Y) t
 
+-- numbers below p whose difference is 0
+no_difference : (p x u : ℕ) → x < p → u < p → Same p (difference p u x) 0 → x ≡ u
+no_difference p x u xl ul none =
+    let first : 0 + x ≡ x = omega arith in
+    let both : Same p x u = same_then (same_of (sym first)) (same_then (same_add (same_sym none) (same_refl x)) (difference-is p u x (omega arith))) in
+    sym (mod-eq_of_lt xl) ∙ both.same ∙ mod-eq_of_lt ul
+
 -- x and u are the same if h is 0
 same_x : (p : ℕ) → Certified p → (X Y Z u v w s t h r x : ℕ) → Compared p X Y Z u v w s t h r → x < p → u < p → (Z % p ≡ 0 → ⊥)
     → Same p X (x * (Z * Z)) → Same p h 0 → x ≡ u
@@ -195,10 +202,7 @@ same_x p k X Y Z u v w s t h r x c xl ul nz hX z =
     let dx = difference p u x in
     let dx-is = difference-is p u x (omega arith) in
     let h-is = added_h p X Z x u w s h dx hX c.w-is c.s-is c.h-is dx-is in
-    let none : Same p dx 0 = no_zero_square p k Z dx nz (same_then (same_sym h-is) z) in
-    let first : 0 + x ≡ x = omega arith in
-    let both : Same p x u = same_then (same_of (sym first)) (same_then (same_add (same_sym none) (same_refl x)) dx-is) in
-    sym (mod-eq_of_lt xl) ∙ both.same ∙ mod-eq_of_lt ul
+    no_difference p x u xl ul (no_zero_square p k Z dx nz (same_then (same_sym h-is) z))
 
 same_y : (p : ℕ) → Certified p → (X Y Z u v w s t h r y : ℕ) → Compared p X Y Z u v w s t h r → y < p → v < p → (Z % p ≡ 0 → ⊥)
     → Same p Y (y * (Z * Z * Z)) → Same p r 0 → y ≡ v
@@ -206,10 +210,7 @@ same_y p k X Y Z u v w s t h r y c yl vl nz hY z =
     let dy = difference p v y in
     let dy-is = difference-is p v y (omega arith) in
     let r-is = added_r p Y Z y v w t r dy hY c.w-is c.t-is c.r-is dy-is in
-    let none : Same p dy 0 = no_zero_cube p k Z dy nz (same_then (same_sym r-is) z) in
-    let first : 0 + y ≡ y = omega arith in
-    let both : Same p y v = same_then (same_of (sym first)) (same_then (same_add (same_sym none) (same_refl y)) dy-is) in
-    sym (mod-eq_of_lt yl) ∙ both.same ∙ mod-eq_of_lt vl
+    no_difference p y v yl vl (no_zero_cube p k Z dy nz (same_then (same_sym r-is) z))
 
 -- r is 0 if y and v are the same
 other_y : (p : ℕ) → Certified p → (X Y Z u v w s t h r y : ℕ) → Compared p X Y Z u v w s t h r → y < p → v < p

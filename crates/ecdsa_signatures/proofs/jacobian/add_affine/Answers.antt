@@ -1,7 +1,7 @@
-use Rattle.std.proofs.Common.{◌≡◌, ◌%◌, ◌∙◌, sym, arith}
+use Rattle.std.proofs.Common.{◌∙◌}
 use Rattle.ecdsa_signatures.specs.Curve.{prime}
 use Rattle.ecdsa_signatures.specs.private.Forms.{held}
-use Rattle.ecdsa_signatures.proofs.Forms.{prime-certified, held-below, held-lt}
+use Rattle.ecdsa_signatures.proofs.Forms.{prime-certified, held-below, not_zero, held-lt}
 use Rattle.ecdsa_signatures.proofs.Points.{add-first_stands, add-same_stands, add-other_stands, add-stands, compared-by, added-by}
 use Rattle.modular_arithmetic.proofs.Same.{same_of}
 use Rattle.ecdsa_signatures.proofs.jacobian.add_affine.Goals as goal
@@ -19,7 +19,7 @@ returns-then-is_zero-3-clause-point c =
     let m = prime k in
     let p = c.args.p.now in
     let q = c.args.q.now in
-    let nz : held k p.z % m ≡ 0 → ⊥ = λ e. let t = c.is_zero.ensures.1 (sym (held-below k p.z) ∙ e) in let f = c.if-is_zero.false in grind arith in
+    let nz = not_zero k p.z c.is_zero.result c.is_zero.ensures c.if-is_zero.false in
     let seen = compared-by m (held k p.x) (held k p.y) (held k p.z) (held k q.x) (held k q.y) (held k c.square-z_square.result) (held k c.times-z_cube.result)
     (held k c.times-u.result) (held k c.times-s.result) (held k c.minus-h.result) (held k c.minus-r.result)
     c.square-z_square.ensures.held c.times-z_cube.ensures.held c.times-u.ensures.held c.times-s.ensures.held c.minus-h.ensures.held c.minus-r.ensures.held in
@@ -35,13 +35,12 @@ returns-then-is_zero-2-clause-point c =
     let m = prime k in
     let p = c.args.p.now in
     let q = c.args.q.now in
-    let nz : held k p.z % m ≡ 0 → ⊥ = λ e. let t = c.is_zero.ensures.1 (sym (held-below k p.z) ∙ e) in let f = c.if-is_zero.false in grind arith in
+    let nz = not_zero k p.z c.is_zero.result c.is_zero.ensures c.if-is_zero.false in
     let seen = compared-by m (held k p.x) (held k p.y) (held k p.z) (held k q.x) (held k q.y) (held k c.square-z_square.result) (held k c.times-z_cube.result)
     (held k c.times-u.result) (held k c.times-s.result) (held k c.minus-h.result) (held k c.minus-r.result)
     c.square-z_square.ensures.held c.times-z_cube.ensures.held c.times-u.ensures.held c.times-s.ensures.held c.minus-h.ensures.held c.minus-r.ensures.held in
     let r = c.infinity.result in
-    let rn : held k c.minus-r.result % m ≡ 0 → ⊥ = λ e.
-    let t = c.is_zero-then-is_zero-2.ensures.1 (sym (held-below k c.minus-r.result) ∙ e) in let f = c.if-is_zero-3.false in grind arith in
+    let rn = not_zero k c.minus-r.result c.is_zero-then-is_zero-2.result c.is_zero-then-is_zero-2.ensures c.if-is_zero-3.false in
     add-other_stands m (prime-certified k) (held k p.x) (held k p.y) (held k p.z) (held k q.x) (held k q.y) (held k c.square-z_square.result)
     (held k c.times-u.result) (held k c.times-s.result) (held k c.minus-h.result) (held k c.minus-r.result)
     (held k r.x) (held k r.y) (held k r.z) seen (held-lt k q.x) (held-lt k q.y) nz
@@ -53,12 +52,11 @@ returns-clause-point c =
     let m = prime k in
     let p = c.args.p.now in
     let q = c.args.q.now in
-    let nz : held k p.z % m ≡ 0 → ⊥ = λ e. let t = c.is_zero.ensures.1 (sym (held-below k p.z) ∙ e) in let f = c.if-is_zero.false in grind arith in
+    let nz = not_zero k p.z c.is_zero.result c.is_zero.ensures c.if-is_zero.false in
     let seen = compared-by m (held k p.x) (held k p.y) (held k p.z) (held k q.x) (held k q.y) (held k c.square-z_square.result) (held k c.times-z_cube.result)
     (held k c.times-u.result) (held k c.times-s.result) (held k c.minus-h.result) (held k c.minus-r.result)
     c.square-z_square.ensures.held c.times-z_cube.ensures.held c.times-u.ensures.held c.times-s.ensures.held c.minus-h.ensures.held c.minus-r.ensures.held in
-    let nh : held k c.minus-h.result % m ≡ 0 → ⊥ = λ e.
-    let t = c.is_zero-2.ensures.1 (sym (held-below k c.minus-h.result) ∙ e) in let f = c.if-is_zero-2.false in grind arith in
+    let nh = not_zero k c.minus-h.result c.is_zero-2.result c.is_zero-2.ensures c.if-is_zero-2.false in
     add-stands m (prime-certified k) (held k p.x) (held k p.y) (held k p.z) (held k q.x) (held k q.y) (held k c.square-z_square.result)
     (held k c.times-u.result) (held k c.times-s.result) (held k c.minus-h.result) (held k c.minus-r.result)
     (held k c.square-h_square.result) (held k c.times-h_cube.result) (held k c.times-v.result) (held k c.minus-x.result) (held k c.minus-rest.result)

@@ -1,7 +1,7 @@
-use Rattle.std.proofs.Common.{◌≡◌, ◌%◌, ap, ◌∙◌, sym, arith}
+use Rattle.std.proofs.Common.{◌≡◌, ap, ◌∙◌}
 use Rattle.ecdsa_signatures.specs.Curve.{prime, inverse}
 use Rattle.ecdsa_signatures.specs.private.Forms.{held}
-use Rattle.ecdsa_signatures.proofs.Forms.{prime-certified, held-below}
+use Rattle.ecdsa_signatures.proofs.Forms.{prime-certified, held-below, not_zero}
 use Rattle.ecdsa_signatures.proofs.Points.{affine-infinity, affine-stands}
 use Rattle.modular_arithmetic.proofs.Same.{same_mod}
 use Rattle.ecdsa_signatures.proofs.jacobian.affine.Goals as goal
@@ -17,7 +17,7 @@ returns-clause-value c =
     let k = c.args.curve in
     let m = prime k in
     let p = c.args.p.now in
-    let nz : held k p.z % m ≡ 0 → ⊥ = λ e. let t = c.is_zero.ensures.1 (sym (held-below k p.z) ∙ e) in let f = c.if-is_zero.false in grind arith in
+    let nz = not_zero k p.z c.is_zero.result c.is_zero.ensures c.if-is_zero.false in
     let i = held k c.to_form-inverse.result in
     let j = held k c.square-inverse_square.result in
     let t = held k c.times-inverse_cube.result in

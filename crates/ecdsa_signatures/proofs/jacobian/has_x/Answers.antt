@@ -1,9 +1,9 @@
-use Rattle.std.proofs.Common.{◌≡◌, ◌*◌, ◌%◌, ◌<◌, sym, ◌∙◌, arith, rules}
+use Rattle.std.proofs.Common.{◌≡◌, ◌*◌, ◌%◌, ◌<◌, ◌∙◌, arith, rules}
 use Rattle.ecdsa_signatures.specs.Curve.{prime, order}
 use Rattle.ecdsa_signatures.specs.private.Coordinates.{value}
 use Rattle.ecdsa_signatures.specs.private.Forms.{held}
 use Rattle.ecdsa_signatures.proofs.Constants.{order-below_prime, prime-below_twice_order}
-use Rattle.ecdsa_signatures.proofs.Forms.{prime-certified, held-below}
+use Rattle.ecdsa_signatures.proofs.Forms.{prime-certified, held-below, not_zero}
 use Rattle.ecdsa_signatures.proofs.LastComparison.{infinity-has_no_x, first-has_x, none-has_x, second-has_x}
 use Rattle.modular_arithmetic.proofs.Same.{same_mod}
 use Rattle.ecdsa_signatures.proofs.jacobian.has_x.Goals as goal
@@ -27,7 +27,7 @@ returns-then-is_quotient c =
     let k = c.args.curve in
     let m = prime k in
     let p = c.args.p.now in
-    let nz : held k p.z % m ≡ 0 → ⊥ = λ e. let t = c.is_zero.ensures.1 (sym (held-below k p.z) ∙ e) in let f = c.if-is_zero.false in grind arith in
+    let nz = not_zero k p.z c.is_zero.result c.is_zero.ensures c.if-is_zero.false in
     let rp : value k c.args.r.now < m = omega (arith, c.requires.r, order-below_prime k) in
     let e = c.is_quotient.ensures.0 c.if-is_quotient.true in
     λ a h. (
@@ -43,7 +43,7 @@ returns-in-None c =
     let p = c.args.p.now in
     let r = value k c.args.r.now in
     let z = held k c.square-z_square.result in
-    let nz : held k p.z % m ≡ 0 → ⊥ = λ e. let t = c.is_zero.ensures.1 (sym (held-below k p.z) ∙ e) in let f = c.if-is_zero.false in grind arith in
+    let nz = not_zero k p.z c.is_zero.result c.is_zero.ensures c.if-is_zero.false in
     let rp : r < m = omega (arith, c.requires.r, order-below_prime k) in
     let ne : (r * z) % m ≡ held k p.x → ⊥ = λ e. let t = c.is_quotient.ensures.1 e in let f = c.if-is_quotient.false in grind arith in
     λ a h. (
@@ -59,7 +59,7 @@ returns-in-Some c =
     let p = c.args.p.now in
     let r = value k c.args.r.now in
     let z = held k c.square-z_square.result in
-    let nz : held k p.z % m ≡ 0 → ⊥ = λ e. let t = c.is_zero.ensures.1 (sym (held-below k p.z) ∙ e) in let f = c.if-is_zero.false in grind arith in
+    let nz = not_zero k p.z c.is_zero.result c.is_zero.ensures c.if-is_zero.false in
     let rp : r < m = omega (arith, c.requires.r, order-below_prime k) in
     let ne : (r * z) % m ≡ held k p.x → ⊥ = λ e. let t = c.is_quotient.ensures.1 e in let f = c.if-is_quotient.false in grind arith in
     let found = c.in-Some.ensures in

@@ -1,6 +1,5 @@
 use Rattle.std.proofs.Common.{◌≡◌, ◌*◌, ◌<◌, ap, subst, arith, mul-le-mul_right}
 use Rattle.modular_arithmetic.specs.Limbs.{limb_weight}
-use Rattle.ecdsa_signatures.specs.Curve.{prime}
 use Rattle.ecdsa_signatures.specs.private.Coordinates.{value, limb_count}
 use Rattle.ecdsa_signatures.proofs.Constants.{prime-below_weight}
 use Rattle.ecdsa_signatures.proofs.scalar.with_order.Goals as goal
