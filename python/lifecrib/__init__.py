@@ -29,9 +29,9 @@ __all__ = [
     'BadSignature', 'BadToken', 'Claims', 'Client', 'Device', 'Ended', 'ErrorResponse', 'HttpxTransport',
     'InsecureEndpoint', 'Introspection', 'Keeper', 'LifecribError', 'Login', 'Metadata', 'MissingEndpoint',
     'OtherClient', 'OtherError', 'OtherIssuer', 'OtherRedirectUri', 'OtherStatus', 'OtherTokenEndpoint',
-    'OtherTokenType', 'OutOfMemory', 'RefusedRedirect', 'Reply', 'Request', 'RequestFailed', 'RequestsTransport', 'Run', 'TakenParameter',
-    'ThreadTransport', 'Token', 'TooLarge', 'Transport', 'UnboundLogin', 'UncheckedSignature', 'UnreadReply',
-    'UrllibTransport', 'Waiting', 'check_access_token', 'run_script']
+    'OtherTokenType', 'OutOfMemory', 'RefusedRedirect', 'Reply', 'Request', 'RequestFailed', 'RequestsTransport', 'Run',
+    'TakenParameter', 'ThreadTransport', 'Token', 'TooLarge', 'Transport', 'UnboundLogin', 'UncheckedSignature',
+    'UnreadReply', 'UrllibTransport', 'Waiting', 'check_access_token', 'run_script']
 _MODULES = ('_errors', '_library', '_data', '_calls', '_transport', '_client')  # the last ones take longest to load
 
 

@@ -88,7 +88,8 @@ class Keepers(Case):
         self.assertEqual(keeper.token().access_token, 't1')
 
     def test_it_hands_out_no_token_of_another_type(self):
-        keeper, server = self.keeper(reply(1, refresh_token='r1', token_type='DPoP'), OSError(), reply(3), retry_after=30)
+        first = reply(1, refresh_token='r1', token_type='DPoP')
+        keeper, server = self.keeper(first, OSError(), reply(3), retry_after=30)
         error = self.fails(lifecrib.OtherTokenType, keeper.token)
         self.assertEqual((error.kind, keeper.refresh_token), ('other_token_type', 'r1'))
         self.fails(lifecrib.Waiting, keeper.token)
