@@ -86,6 +86,7 @@ def is_unknown_hash(it):
 # The first and the last second since 1970 that a `Timestamp` can say.
 EARLIEST, LATEST = -377705023201, 253402207200
 KNOWN = {kind + size for kind in ('HS', 'RS', 'ES', 'PS') for size in ('256', '384', '512')}
+UNKNOWN_HASHES = ('EdDSA', 'Ed25519', 'ESP256', 'ESP384', 'ESP512')
 CLASSES = [
     Class('algorithm', '3.1.3.7, 6 to 8', "the algorithm is a matter of Authlib's signature check, not of its claims checks",
           said('the token has no signature', 'the algorithm is not the registered one')),
@@ -120,8 +121,8 @@ CLASSES = [
     Class('empty and expected', '3.1.3.7, 2, 3', 'Authlib refuses an empty issuer or audience, though it is the expected one',
           is_empty_but_expected),
     Class('hash of another algorithm', '3.1.3.8', 'Authlib cuts the name of a digest from that of any algorithm', is_unknown_hash),
-    Class('hash by EdDSA', '3.1.3.6', 'Authlib knows no hash of EdDSA, so it compares none',
-          lambda it: said('the hash is that of another access token')(it) and it.header['alg'] == 'EdDSA'),
+    Class('hash by EdDSA', '3.1.3.6', 'Authlib knows no hash of EdDSA and of the names of RFC 9864, so it compares none',
+          lambda it: said('the hash is that of another access token')(it) and it.header['alg'] in UNKNOWN_HASHES),
     Class('nbf', 'RFC 7519, 4.1.5', 'Authlib takes null for no time, other values for one, and reads a time without its fraction',
           lambda it: 'nbf' in it.claims and (it.ours is None and (it.theirs in refused_for('nbf') or it.theirs.startswith('invalid_token'))
                                              or said('the token is not valid yet')(it)))]

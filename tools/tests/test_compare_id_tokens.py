@@ -93,7 +93,7 @@ BUGS = [('not LETTERS.issuperset(text) or', ''), ('or len(text) % 4 == 1', ''), 
         ('digest()[:hashed.digest_size // 2]', 'digest()[:16]'), ("!= claims['at_hash']", "!= claims['at_hash'].rstrip('=')"),
         ("hashlib.new('sha' + size)", 'hashlib.sha256()'), ('= hashlib.sha512()', '= hashlib.sha256()'),
         ("header['alg'] not in HASHES", "header['alg'].upper() not in HASHES"),
-        ("HASHES[header['alg']].copy()", "HASHES['RS256'].copy()"), ("('HS', 'RS', 'ES', 'PS')", "('HS', 'RS', 'ES')"),
+        ("HASHES[header['alg']].copy()", "HASHES['RS256'].copy()"), ("('HS', 'RS', 'ES', 'PS', 'ESP')", "('HS', 'RS', 'ES', 'ESP')"),
         ('access_token.encode()', "access_token.encode('latin-1', 'replace')"),
         ("return 'not_checked'", "raise Fault('the hash is that of another access token')"),
         ("script['readings'][0]", "script['readings'][-1]"), (', aud=audiences(claims)', ''), ('sort_keys=True', 'sort_keys=False'),
@@ -236,7 +236,7 @@ class IdTokens(unittest.TestCase):
         self.assertGreaterEqual(min(ends.values()), 10, ends)
 
     def test_each_bug_is_seen(self):
-        tokens = TOOL.Tokens(1)
+        tokens = TOOL.Tokens(6)
         scripts = [tokens.script() for _ in range(3000)]
         answers = [TOOL.read(it) for it in scripts]
         for old, new in BUGS + list(in_other_order()):

@@ -75,7 +75,7 @@ class Page(unittest.TestCase):
             parts = ''.join(sources.read(os.path.join(SPECS, it + '.antt')) for it in parts) + text[:text.rindex('\nunfoldable pub ')]
             text = text[text.rindex('\nunfoldable pub '):]
             text += self.parts_of(text, parts)
-        return [re.findall(r'(?:%s)[ (\w]* \(codes "(\w+)"\) (?:d|entry)\b' % kinds, text) for kinds in ('needed_part', 'needed_part|present_part|list_part|get')]
+        return [re.findall(r'(?:%s)[ ()\w]* \(codes "(\w+)"\) (?:d|entry)\b' % kinds, text) for kinds in ('needed_part', 'needed_part|present_part|list_part|get')]
 
     def parts_of(self, text, parts):
         """The definitions of these parts by which a text reads an object, and those by which they do."""
