@@ -1,22 +1,24 @@
-//! Tests of the content of a request, how a server decodes it, how it is sent and how its reply is
-//! read, through the names of `oauth2`. They test what the stored scripts of `oauth2_scripts_tests`
-//! cannot.
+//! Tests of requests and of their replies. The module `messages` has those through the names of
+//! `oauth2`, and `checks` what several modules share. Each of the others tests the library of its
+//! name.
 
 #![tactic(auto)]
 
 #[cfg(test)]
-mod added_params;
+mod authorization_details;
 #[cfg(test)]
-mod each_request;
+mod checks;
 #[cfg(test)]
-mod endpoint_requests;
+mod client_assertions;
 #[cfg(test)]
-mod error_texts;
+mod client_secret_jwt;
 #[cfg(test)]
-mod form_encoding;
+mod grants;
 #[cfg(test)]
-mod one_shot;
+mod messages;
 #[cfg(test)]
-mod replies;
+mod metadata;
 #[cfg(test)]
-mod views;
+mod pushed_requests;
+#[cfg(test)]
+mod resource_indicators;

@@ -1,0 +1,7 @@
+//! Tests of assertions that a client signs with its secret.
+
+mod clock;
+mod failures;
+mod issuers;
+mod parts;
+mod tokens;
