@@ -4,7 +4,7 @@ use Rattle.std.proofs.lemmas.Bool.{cases_eq}
 use Rattle.ecdsa_signatures.specs.Curve.{prime, coefficient, generator_x, generator_y, generator, IsOnCurve, Point, Infinity, Affine, difference, chord, tangent, third_x, third_y, sum, odd_part, multiples_of}
 use Rattle.ecdsa_signatures.specs.Signature.{found_point}
 use Rattle.ecdsa_signatures.specs.declared.curve.EllipticCurve.{EllipticCurve}
-use Rattle.ecdsa_signatures.specs.declared.curve.EllipticCurve.TheVariants.{P256, P384}
+use Rattle.ecdsa_signatures.specs.declared.curve.EllipticCurve.TheVariants.{P256, P384, P521}
 use Rattle.ecdsa_signatures.proofs.Constants.{prime-above_three}
 use Rattle.ecdsa_signatures.proofs.Forms.{prime-certified}
 use Rattle.ecdsa_signatures.proofs.JacobianSums.{Tangent, Chord}
@@ -200,6 +200,7 @@ generator-is_point : (c : EllipticCurve) → IsPoint c (generator c)
 unfolding IsPoint prime coefficient generator_x generator_y
 generator-is_point P256 = (lit< tt, (lit< tt, refl))
 generator-is_point P384 = (lit< tt, (lit< tt, refl))
+generator-is_point P521 = (lit< tt, (lit< tt, refl))
 
 -- and so is the point that a signature is compared with
 pub found-is_point : (c : EllipticCurve) (e r s : ℕ) (q : Point) → IsPoint c q → IsPoint c (found_point c e r s q)

@@ -6,9 +6,9 @@ use Rattle.ecdsa_signatures.specs.Curve.{prime}
 use Rattle.ecdsa_signatures.specs.private.Coordinates.{value, limb_count}
 use Rattle.ecdsa_signatures.specs.private.Forms.{weight_inverse, held}
 use Rattle.ecdsa_signatures.specs.declared.curve.EllipticCurve.{EllipticCurve}
-use Rattle.ecdsa_signatures.specs.declared.curve.EllipticCurve.TheVariants.{P256, P384}
+use Rattle.ecdsa_signatures.specs.declared.curve.EllipticCurve.TheVariants.{P256, P384, P521}
 use Rattle.ecdsa_signatures.proofs.Constants.{prime-above_zero}
-use Rattle.ecdsa_signatures.proofs.Certificates.{prime_of_p256, prime_of_p384}
+use Rattle.ecdsa_signatures.proofs.Certificates.{prime_of_p256, prime_of_p384, prime_of_p521}
 use Rattle.ecdsa_signatures.proofs.Primes.{Certified}
 use Rattle.modular_arithmetic.proofs.MontgomeryForms.{form_product, zero_form, to_form, from_form, same_form}
 use Rattle.modular_arithmetic.proofs.Same.{Same, same_of, same_sym, same_then, same_add, same_mul, same_refl, same_mod}
@@ -17,11 +17,13 @@ pub prime-certified : (c : EllipticCurve) → Certified (prime c)
 unfolding prime
 prime-certified P256 = prime_of_p256
 prime-certified P384 = prime_of_p384
+prime-certified P521 = prime_of_p521
 
 weight-unit : (c : EllipticCurve) → Same (prime c) (limb_weight (limb_count c) * weight_inverse c) 1
 unfolding prime limb_weight limb_count weight_inverse
 weight-unit P256 = record { same = refl }
 weight-unit P384 = record { same = refl }
+weight-unit P521 = record { same = refl }
 
 pub held-below : (c : EllipticCurve) (xs : List ℕ) → held c xs % prime c ≡ held c xs
 unfolding held

@@ -25,12 +25,12 @@ power_mod (suc k) b e n = (b ^ (e % 2) * power_mod k ((b * b) % n) (e / 2) n) % 
 
 unfoldable pub has_whole_order : ℕ → ℕ → ℕ → List ℕ → Bool
 has_whole_order n g m [] = true
-has_whole_order n g m (q ∷ qs) = not (nat_eq (power_mod 400 g (m / q) n) 1) && has_whole_order n g m qs
+has_whole_order n g m (q ∷ qs) = not (nat_eq (power_mod 521 g (m / q) n) 1) && has_whole_order n g m qs
 
 -- g to the power of n - 1 is 1 modulo n, and to no power of (n - 1) / q, for the prime factors q of n - 1
 unfoldable pub is_certificate : ℕ → ℕ → List ℕ → Bool
 is_certificate n g qs =
-    nat_lt 1 n && (nat_lt n (2 ^ 400) && (nat_eq (product qs + 1) n && (nat_eq (power_mod 400 g (product qs) n) 1 && has_whole_order n g (product qs) qs)))
+    nat_lt 1 n && (nat_lt n (2 ^ 521) && (nat_eq (product qs + 1) n && (nat_eq (power_mod 521 g (product qs) n) 1 && has_whole_order n g (product qs) qs)))
 
 same_pow : (n a b k : ℕ) → Same n a b → Same n (a ^ k) (b ^ k)
 same_pow n a b zero h = same_of (pow-zero a ∙ sym (pow-zero b))
@@ -74,11 +74,11 @@ power_mod-is (suc k) b e n h =
 one_is : (n : ℕ) → 1 < n → 1 % n ≡ 1
 one_is n h = mod-eq_of_lt h
 
-power_mod-one : (b e n : ℕ) → 1 < n → e < 2 ^ 400 → Same n (b ^ e) 1 → power_mod 400 b e n ≡ 1
-power_mod-one b e n a h s = sym (power_mod-residue 400 b e n) ∙ (same_then (power_mod-is 400 b e n h) s).same ∙ one_is n a
+power_mod-one : (b e n : ℕ) → 1 < n → e < 2 ^ 521 → Same n (b ^ e) 1 → power_mod 521 b e n ≡ 1
+power_mod-one b e n a h s = sym (power_mod-residue 521 b e n) ∙ (same_then (power_mod-is 521 b e n h) s).same ∙ one_is n a
 
-power_mod-back : (b e n : ℕ) → e < 2 ^ 400 → power_mod 400 b e n ≡ 1 → Same n (b ^ e) 1
-power_mod-back b e n h s = same_then (same_sym (power_mod-is 400 b e n h)) (same_of s)
+power_mod-back : (b e n : ℕ) → e < 2 ^ 521 → power_mod 521 b e n ≡ 1 → Same n (b ^ e) 1
+power_mod-back b e n h s = same_then (same_sym (power_mod-is 521 b e n h)) (same_of s)
 
 -- a product of primes that c divides has one that divides c
 no_factor_of : (q m c t r : ℕ) → IsPrime q → ((e : ℕ) → c ≡ q * e → ⊥) → ((u : ℕ) → c * u ≡ m → ⊥) → c * t ≡ q * m → c % q ≡ r → ⊥
@@ -99,19 +99,19 @@ not_true : (b : Bool) → not b ≡ true → b ≡ true → ⊥
 not_true true h e = true≢false (sym h)
 not_true false h e = true≢false (sym e)
 
-no_factor : (n g m d c : ℕ) → 1 < n → m < 2 ^ 400 → m ≡ d * c → 1 < c → Same n (g ^ d) 1 → (qs : List ℕ) (t : ℕ) → AllPrime qs
+no_factor : (n g m d c : ℕ) → 1 < n → m < 2 ^ 521 → m ≡ d * c → 1 < c → Same n (g ^ d) 1 → (qs : List ℕ) (t : ℕ) → AllPrime qs
     → has_whole_order n g m qs ≡ true → c * t ≡ product qs → ⊥
 unfolding product has_whole_order
 no_factor n g m d c a bits e l s [] zero p h z = absurd (omega (arith, z, mul-zero c))
 no_factor n g m d c a bits e l s [] (suc t) p h z = absurd (omega (arith, z, mul-suc c t))
 no_factor n g m d c a bits e l s (q ∷ qs) t p h z =
-    let parts = and_parts (not (nat_eq (power_mod 400 g (m / q) n) 1)) (has_whole_order n g m qs) h in
+    let parts = and_parts (not (nat_eq (power_mod 521 g (m / q) n) 1)) (has_whole_order n g m qs) h in
     let positive : 0 < q = let b = p.0.above in omega arith in
     no_factor_of q (product qs) c t (c % q) p.0
-    (λ u w. not_true (nat_eq (power_mod 400 g (m / q) n) 1) parts.0 (eq-eqb (power_mod 400 g (m / q) n) 1
+    (λ u w. not_true (nat_eq (power_mod 521 g (m / q) n) 1) parts.0 (eq-eqb (power_mod 521 g (m / q) n) 1
     (let whole : m ≡ q * (d * u) = omega (arith, e, ap (λ s. d * s) w) in
     let quotient : m / q ≡ d * u = ap (λ s. s / q) whole ∙ mul-div_cancel_left (d * u) positive in
-    let below : m / q < 2 ^ 400 = omega arith in
+    let below : m / q < 2 ^ 521 = omega arith in
     power_mod-one g (m / q) n a below (same_then (same_of (ap (λ s. g ^ s) quotient ∙ sym (pow-pow g d u))) (same_one n (g ^ d) u s)))))
     (λ u w. no_factor n g m d c a bits e l s qs u p.1 parts.1 w) z refl
 
@@ -239,11 +239,11 @@ certified_of n g m a e whole proper =
       little = λ x nz. ap (λ t. (x * x ^ t) % n) exponent ∙ inverse x nz;
     }
 
-certified_by : (n g m k : ℕ) (qs : List ℕ) → product qs ≡ m → m ≡ k → 1 < n → n < 2 ^ 400 → m + 1 ≡ n → power_mod 400 g m n ≡ 1
+certified_by : (n g m k : ℕ) (qs : List ℕ) → product qs ≡ m → m ≡ k → 1 < n → n < 2 ^ 521 → m + 1 ≡ n → power_mod 521 g m n ≡ 1
     → has_whole_order n g m qs ≡ true → AllPrime qs → Certified n
 certified_by n g m zero qs p k a b e one order primes = absurd (omega arith)
 certified_by n g m (suc k) qs p w a b e one order primes =
-    let bits : m < 2 ^ 400 = omega arith in
+    let bits : m < 2 ^ 521 = omega arith in
     let whole : Same n (g ^ suc k) 1 = same_then (same_of (ap (λ t. g ^ t) (sym w))) (power_mod-back g m n bits one) in
     let is : n ≡ suc (suc k) = omega arith in
     certified_of n g k a is whole
@@ -255,10 +255,10 @@ unfolding is_certificate
 lucas n g qs h primes =
     let m = product qs in
     let a = and_parts (nat_lt 1 n) _ h in
-    let b = and_parts (nat_lt n (2 ^ 400)) _ a.1 in
+    let b = and_parts (nat_lt n (2 ^ 521)) _ a.1 in
     let c = and_parts (nat_eq (m + 1) n) _ b.1 in
-    let d = and_parts (nat_eq (power_mod 400 g m n) 1) _ c.1 in
-    certified_by n g m m qs refl refl (ltb-true 1 n a.0) (ltb-true n (2 ^ 400) b.0) (eqb-true (m + 1) n c.0) (eqb-true (power_mod 400 g m n) 1 d.0) d.1 primes
+    let d = and_parts (nat_eq (power_mod 521 g m n) 1) _ c.1 in
+    certified_by n g m m qs refl refl (ltb-true 1 n a.0) (ltb-true n (2 ^ 521) b.0) (eqb-true (m + 1) n c.0) (eqb-true (power_mod 521 g m n) 1 d.0) d.1 primes
 
 pub two_is_prime : IsPrime 2
 two_is_prime = record {

@@ -1,42 +1,53 @@
--- The curves P-256 and P-384 (SP 800-186, 3.2.1.3 and 3.2.1.4) and the sum of their points (SEC 1, 2.2.1).
+-- The curves P-256, P-384 and P-521 (SP 800-186, 3.2.1.3 to 3.2.1.5) and the sum of their points (SEC 1, 2.2.1).
 use Rattle.std.specs.Prelude.{◌≡◌, ℕ, zero, suc, ◌+◌, ◌-◌, ◌*◌, ◌/◌, ◌%◌, ◌^◌, nat_eq, if◌then◌else◌}
 use Rattle.ecdsa_signatures.specs.declared.curve.EllipticCurve.{EllipticCurve}
-use Rattle.ecdsa_signatures.specs.declared.curve.EllipticCurve.TheVariants.{P256, P384}
+use Rattle.ecdsa_signatures.specs.declared.curve.EllipticCurve.TheVariants.{P256, P384, P521}
 
--- p, of which the coordinates are residues: 2 ^ 256 - 2 ^ 224 + 2 ^ 192 + 2 ^ 96 - 1, and
--- 2 ^ 384 - 2 ^ 128 - 2 ^ 96 + 2 ^ 32 - 1
+-- p, of which the coordinates are residues: 2 ^ 256 - 2 ^ 224 + 2 ^ 192 + 2 ^ 96 - 1,
+-- 2 ^ 384 - 2 ^ 128 - 2 ^ 96 + 2 ^ 32 - 1, and 2 ^ 521 - 1
 unfoldable pub prime : EllipticCurve → ℕ
 prime P256 = 0xffffffff00000001000000000000000000000000ffffffffffffffffffffffff
 prime P384 =
     0xfffffffffffffffffffffffffffffffffffffffffffffffffffffffffffffffeffffffff0000000000000000ffffffff
+prime P521 =
+    0x1ffffffffffffffffffffffffffffffffffffffffffffffffffffffffffffffffffffffffffffffffffffffffffffffffffffffffffffffffffffffffffffffffff
 
 -- n, the order of G
 unfoldable pub order : EllipticCurve → ℕ
 order P256 = 0xffffffff00000000ffffffffffffffffbce6faada7179e84f3b9cac2fc632551
 order P384 =
     0xffffffffffffffffffffffffffffffffffffffffffffffffc7634d81f4372ddf581a0db248b0a77aecec196accc52973
+order P521 =
+    0x1fffffffffffffffffffffffffffffffffffffffffffffffffffffffffffffffffa51868783bf2f966b7fcc0148f709a5d03bb5c9b8899c47aebb6fb71e91386409
 
 -- b of the equation; a is -3
 unfoldable pub coefficient : EllipticCurve → ℕ
 coefficient P256 = 0x5ac635d8aa3a93e7b3ebbd55769886bc651d06b0cc53b0f63bce3c3e27d2604b
 coefficient P384 =
     0xb3312fa7e23ee7e4988e056be3f82d19181d9c6efe8141120314088f5013875ac656398d8a2ed19d2a85c8edd3ec2aef
+coefficient P521 =
+    0x51953eb9618e1c9a1f929a21a0b68540eea2da725b99b315f3b8b489918ef109e156193951ec7e937b1652c0bd3bb1bf073573df883d2c34f1ef451fd46b503f00
 
 -- G's coordinates
 unfoldable pub generator_x : EllipticCurve → ℕ
 generator_x P256 = 0x6b17d1f2e12c4247f8bce6e563a440f277037d812deb33a0f4a13945d898c296
 generator_x P384 =
     0xaa87ca22be8b05378eb1c71ef320ad746e1d3b628ba79b9859f741e082542a385502f25dbf55296c3a545e3872760ab7
+generator_x P521 =
+    0xc6858e06b70404e9cd9e3ecb662395b4429c648139053fb521f828af606b4d3dbaa14b5e77efe75928fe1dc127a2ffa8de3348b3c1856a429bf97e7e31c2e5bd66
 
 unfoldable pub generator_y : EllipticCurve → ℕ
 generator_y P256 = 0x4fe342e2fe1a7f9b8ee7eb4a7c0f9e162bce33576b315ececbb6406837bf51f5
 generator_y P384 =
     0x3617de4a96262c6f5d9e98bf9292dc29f8f41dbd289a147ce9da3113b5f0b8c00a60b1ce1d7e819d7a431d7c90ea0e5f
+generator_y P521 =
+    0x11839296a789a3bc0045c8a5fb42c7d1bd998f54449579b446817afbd17273e662c97ee72995ef42640c550b9013fad0761353c7086a272c24088be94769fd16650
 
 -- the octets of a coordinate (SEC 1, 2.3.5), and of n
 unfoldable pub coordinate_size : EllipticCurve → ℕ
 coordinate_size P256 = 32
 coordinate_size P384 = 48
+coordinate_size P521 = 66
 
 -- 1 / x modulo the prime m, by Fermat's little theorem
 unfoldable pub inverse : ℕ → ℕ → ℕ

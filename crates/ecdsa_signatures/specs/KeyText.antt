@@ -6,11 +6,12 @@ use Rattle.modular_arithmetic.specs.DebugText.{octets_text}
 use Rattle.ecdsa_signatures.specs.Curve.{coordinate_size}
 use Rattle.ecdsa_signatures.specs.PublicKey.{PublicKey}
 use Rattle.ecdsa_signatures.specs.declared.curve.EllipticCurve.{EllipticCurve}
-use Rattle.ecdsa_signatures.specs.declared.curve.EllipticCurve.TheVariants.{P256, P384}
+use Rattle.ecdsa_signatures.specs.declared.curve.EllipticCurve.TheVariants.{P256, P384, P521}
 
 abbrev pub curve_name : EllipticCurve → List ℕ
 curve_name P256 = codes "P256"
 curve_name P384 = codes "P384"
+curve_name P521 = codes "P521"
 
 -- the text before the curve
 abbrev pub opening : Bool → List ℕ

@@ -28,6 +28,7 @@ pub(crate) fn times(curve: EllipticCurve, a: &[u64; LIMBS], b: &[u64; LIMBS]) ->
     match curve {
         EllipticCurve::P256 => times_on(EllipticCurve::P256, a, b),
         EllipticCurve::P384 => times_on(EllipticCurve::P384, a, b),
+        EllipticCurve::P521 => times_on(EllipticCurve::P521, a, b),
     }
 }
 
@@ -58,6 +59,7 @@ pub(crate) fn add(curve: EllipticCurve, a: &[u64; LIMBS], b: &[u64; LIMBS]) -> [
     match curve {
         EllipticCurve::P256 => add_on(EllipticCurve::P256, a, b),
         EllipticCurve::P384 => add_on(EllipticCurve::P384, a, b),
+        EllipticCurve::P521 => add_on(EllipticCurve::P521, a, b),
     }
 }
 
@@ -81,6 +83,7 @@ pub(crate) fn minus(curve: EllipticCurve, a: &[u64; LIMBS], b: &[u64; LIMBS]) ->
     match curve {
         EllipticCurve::P256 => minus_on(EllipticCurve::P256, a, b),
         EllipticCurve::P384 => minus_on(EllipticCurve::P384, a, b),
+        EllipticCurve::P521 => minus_on(EllipticCurve::P521, a, b),
     }
 }
 

@@ -221,7 +221,7 @@ pub(crate) fn multiples(
     let points = with_sum(curve, p, q);
     let mut total = infinity(curve);
     let len = curve.limbs();
-    let mut i = 64 * len;
+    let mut i = 8 * curve.coordinate_size();
     while i > 0 {
         i -= 1;
         let doubled = double(curve, &total);

@@ -18,7 +18,7 @@ use crate::key_error::EcdsaKeyError;
 use crate::point::{AffinePoint, base_point, is_on_curve};
 use crate::scalar::{invert, is_in_range, times};
 use modular_arithmetic::{choose, number, write_octets};
-use sha2::{Digest, Sha256, Sha384};
+use sha2::{Digest, Sha256, Sha384, Sha512};
 use std::alloc::AllocError;
 use std::fmt;
 use std::marker::Model;
@@ -128,6 +128,7 @@ fn hash_number(curve: EllipticCurve, message: &[u8]) -> [u64; LIMBS]
     match curve {
         EllipticCurve::P256 => number(&Sha256::digest(message), 4),
         EllipticCurve::P384 => number(&Sha384::digest(message), 6),
+        EllipticCurve::P521 => number(&Sha512::digest(message), 9),
     }
 }
 

@@ -3,7 +3,7 @@ use Rattle.std.specs.Prelude.{◌≡◌, ℕ, ◌*◌, ◌%◌, ◌<◌, List, O
 use Rattle.ecdsa_signatures.specs.Curve.{prime, Point, Infinity, Affine, sum}
 use Rattle.ecdsa_signatures.specs.private.Coordinates.{value, IsReduced}
 use Rattle.ecdsa_signatures.specs.declared.curve.EllipticCurve.{EllipticCurve}
-use Rattle.ecdsa_signatures.specs.declared.curve.EllipticCurve.TheVariants.{P256, P384}
+use Rattle.ecdsa_signatures.specs.declared.curve.EllipticCurve.TheVariants.{P256, P384, P521}
 use Rattle.ecdsa_signatures.specs.declared.jacobian.Addends.{Addends}
 use Rattle.ecdsa_signatures.specs.declared.jacobian.JacobianPoint.{JacobianPoint}
 use Rattle.ecdsa_signatures.specs.declared.point.AffinePoint.{AffinePoint}
@@ -13,6 +13,8 @@ unfoldable pub weight_inverse : EllipticCurve → ℕ
 weight_inverse P256 = 0xfffffffe00000003fffffffd0000000200000001fffffffe0000000300000000
 weight_inverse P384 =
     0x14000000140000000c00000002fffffffcfffffffafffffffbfffffffdffffffebffffffd8ffffffe100000006
+weight_inverse P521 =
+    0x400000000000000000000000000000000000000000000000000000000000000000000000000000000000000000000000000000000000000000000
 
 -- the number that limbs in Montgomery's form stand for
 unfoldable pub held : EllipticCurve → List ℕ → ℕ

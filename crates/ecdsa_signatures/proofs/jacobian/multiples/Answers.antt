@@ -11,10 +11,10 @@ loop-i-init c =
     let bits = 8 * coordinate_size curve in
     let p = point_of curve (Some c.args.p.now) in
     let q = point_of curve (Some c.args.q.now) in
-    let first = 64 * c.limbs-len.result in
+    let first = 8 * c.coordinate_size-i.result in
     let u = value curve c.args.u.now / 2 ^ first in
     let v = value curve c.args.v.now / 2 ^ first in
-    let whole : first ≡ bits = omega (arith, c.limbs-len.ensures.octets) in
+    let whole : first ≡ bits = omega (arith, c.coordinate_size-i.ensures.value) in
     let none : bits - first ≡ 0 = omega (arith, whole) in
     record {
       bits = omega (arith, whole);
