@@ -1,7 +1,7 @@
 -- The algorithms of signatures by a public key (RFC 7518, 3.1; RFC 8037, 3.1; RFC 9864, 2).
 --
--- RFC 9864 has names that also tell the curve: `ESP256` is `ES256`, `ESP384` is `ES384`, and
--- `Ed25519` is `EdDSA` with a key on that curve.
+-- RFC 9864 has names that also tell the curve: `ESP256` is `ES256`, `ESP384` is `ES384`, `ESP512` is
+-- `ES512`, and `Ed25519` is `EdDSA` with a key on that curve.
 use Rattle.std.specs.Prelude.{ℕ, List, [], ◌∷◌, codes, bytes_eq, Bool, IsTrue, if◌then◌else◌, Option, Some, None}
 use Rattle.rsa_signatures.specs.declared.signature_scheme.SignatureScheme.{SignatureScheme}
 use Rattle.rsa_signatures.specs.declared.signature_scheme.SignatureScheme.TheVariants.{Pkcs1v15, Pss}
@@ -11,10 +11,10 @@ use Rattle.rsa_signatures.specs.Signature.{IsSignature as IsRsaSignature}
 use Rattle.ecdsa_signatures.specs.Signature.{IsSignature as IsEcdsaSignature}
 use Rattle.eddsa_signatures.specs.Signature.{IsSignature as IsEddsaSignature}
 use Rattle.ecdsa_signatures.specs.declared.curve.EllipticCurve.{EllipticCurve}
-use Rattle.ecdsa_signatures.specs.declared.curve.EllipticCurve.TheVariants.{P256, P384}
+use Rattle.ecdsa_signatures.specs.declared.curve.EllipticCurve.TheVariants.{P256, P384, P521}
 use Rattle.oauth2_openid.specs.Checks.{is_among}
 use Rattle.oauth2_keys.specs.declared.algorithm.SignatureAlgorithm.{SignatureAlgorithm}
-use Rattle.oauth2_keys.specs.declared.algorithm.SignatureAlgorithm.TheVariants.{Rs256, Rs384, Rs512, Ps256, Ps384, Ps512, Es256, Es384, Eddsa as EdDsa, Esp256, Esp384, Ed25519}
+use Rattle.oauth2_keys.specs.declared.algorithm.SignatureAlgorithm.TheVariants.{Rs256, Rs384, Rs512, Ps256, Ps384, Ps512, Es256, Es384, Es512, Eddsa as EdDsa, Esp256, Esp384, Esp512, Ed25519}
 use Rattle.oauth2_keys.specs.declared.public_key.PublicKey.{PublicKey}
 use Rattle.oauth2_keys.specs.declared.public_key.PublicKey.TheVariants.{Rsa, Ecdsa, Eddsa}
 
@@ -28,9 +28,11 @@ algorithm_name Ps384 = codes "PS384"
 algorithm_name Ps512 = codes "PS512"
 algorithm_name Es256 = codes "ES256"
 algorithm_name Es384 = codes "ES384"
+algorithm_name Es512 = codes "ES512"
 algorithm_name EdDsa = codes "EdDSA"
 algorithm_name Esp256 = codes "ESP256"
 algorithm_name Esp384 = codes "ESP384"
+algorithm_name Esp512 = codes "ESP512"
 algorithm_name Ed25519 = codes "Ed25519"
 
 -- the algorithm with this name (RFC 7518, 3.1; RFC 8037, 3.1; RFC 9864, 2); `None` for any other
@@ -45,11 +47,13 @@ algorithm_named name =
     else (if bytes_eq name (codes "PS512") then Some Ps512
     else (if bytes_eq name (codes "ES256") then Some Es256
     else (if bytes_eq name (codes "ES384") then Some Es384
+    else (if bytes_eq name (codes "ES512") then Some Es512
     else (if bytes_eq name (codes "EdDSA") then Some EdDsa
     else (if bytes_eq name (codes "ESP256") then Some Esp256
     else (if bytes_eq name (codes "ESP384") then Some Esp384
+    else (if bytes_eq name (codes "ESP512") then Some Esp512
     else (if bytes_eq name (codes "Ed25519") then Some Ed25519
-    else None)))))))))))
+    else None)))))))))))))
 
 -- the RSA scheme of an algorithm (RFC 7518, 3.3 and 3.5); those on curves have none
 abbrev pub rsa_scheme : SignatureAlgorithm → Option SignatureScheme
@@ -61,15 +65,18 @@ rsa_scheme Ps384 = Some (Pss Sha384)
 rsa_scheme Ps512 = Some (Pss Sha512)
 rsa_scheme Es256 = None
 rsa_scheme Es384 = None
+rsa_scheme Es512 = None
 rsa_scheme EdDsa = None
 rsa_scheme Esp256 = None
 rsa_scheme Esp384 = None
+rsa_scheme Esp512 = None
 rsa_scheme Ed25519 = None
 
 -- the names of the algorithm of a curve (RFC 7518, 3.4; RFC 9864, 2.1)
 abbrev pub curve_algorithms : EllipticCurve → List (List ℕ)
 curve_algorithms P256 = codes "ES256" ∷ codes "ESP256" ∷ []
 curve_algorithms P384 = codes "ES384" ∷ codes "ESP384" ∷ []
+curve_algorithms P521 = codes "ES512" ∷ codes "ESP512" ∷ []
 
 -- whether the algorithm is the one of the curve
 abbrev pub is_of_curve : EllipticCurve → SignatureAlgorithm → Bool

@@ -34,8 +34,8 @@ fits_key_id None (Some told) = false
 fits_key_id (Some key_id) (Some told) = bytes_eq key_id told
 
 -- RFC 7518, 3.1: the key has the type that the algorithm requires: RSA for one with an RSA scheme
--- (3.3 and 3.5), the curve of the algorithm for ES256 and ES384 (3.4), and Ed25519 for EdDSA (RFC
--- 8037, 3.1), also by their names of RFC 9864, 2
+-- (3.3 and 3.5), the curve of the algorithm for ES256, ES384 and ES512 (3.4), and Ed25519 for EdDSA
+-- (RFC 8037, 3.1), also by their names of RFC 9864, 2
 abbrev pub fits_type : PublicKey → SignatureAlgorithm → Bool
 fits_type (Rsa key) algorithm = is_some (rsa_scheme algorithm)
 fits_type (Ecdsa key) algorithm = is_of_curve key.curve algorithm

@@ -44,8 +44,8 @@ rsa_key d =
     key_then (octets member.Modulus d) (λ n.
     key_then (octets member.Exponent d) (λ e. rsa_of (rsa_key_of (number n) (number e))))
 
--- a coordinate `x` or `y`, which has as many octets as those of the curve: 32 on P-256 and 48 on
--- P-384 (RFC 7518, 6.2.1.2 and 6.2.1.3)
+-- a coordinate `x` or `y`, which has as many octets as those of the curve: 32 on P-256, 48 on P-384
+-- and 66 on P-521 (RFC 7518, 6.2.1.2 and 6.2.1.3)
 abbrev pub coordinate : EllipticCurve → KeyMember → Data → KeyReading (List ℕ)
 coordinate curve m d =
     key_then (octets m d)

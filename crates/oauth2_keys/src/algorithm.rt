@@ -32,12 +32,16 @@ pub enum SignatureAlgorithm {
     Es256,
     /// `ES384`
     Es384,
+    /// `ES512`
+    Es512,
     /// `EdDSA`, with a key on the curve Ed25519
     Eddsa,
     /// `ESP256`: what `ES256` is, by the name that also tells the curve
     Esp256,
     /// `ESP384`: what `ES384` is, by the name that also tells the curve
     Esp384,
+    /// `ESP512`: what `ES512` is, by the name that also tells the curve
+    Esp512,
     /// `Ed25519`: what `EdDSA` is with a key on that curve
     Ed25519,
 }
@@ -56,9 +60,11 @@ impl SignatureAlgorithm {
             "PS512" => Some(SignatureAlgorithm::Ps512),
             "ES256" => Some(SignatureAlgorithm::Es256),
             "ES384" => Some(SignatureAlgorithm::Es384),
+            "ES512" => Some(SignatureAlgorithm::Es512),
             "EdDSA" => Some(SignatureAlgorithm::Eddsa),
             "ESP256" => Some(SignatureAlgorithm::Esp256),
             "ESP384" => Some(SignatureAlgorithm::Esp384),
+            "ESP512" => Some(SignatureAlgorithm::Esp512),
             "Ed25519" => Some(SignatureAlgorithm::Ed25519),
             _ => None,
         }
@@ -77,9 +83,11 @@ impl SignatureAlgorithm {
             SignatureAlgorithm::Ps512 => "PS512",
             SignatureAlgorithm::Es256 => "ES256",
             SignatureAlgorithm::Es384 => "ES384",
+            SignatureAlgorithm::Es512 => "ES512",
             SignatureAlgorithm::Eddsa => "EdDSA",
             SignatureAlgorithm::Esp256 => "ESP256",
             SignatureAlgorithm::Esp384 => "ESP384",
+            SignatureAlgorithm::Esp512 => "ESP512",
             SignatureAlgorithm::Ed25519 => "Ed25519",
         }
     }
@@ -97,9 +105,11 @@ impl SignatureAlgorithm {
             SignatureAlgorithm::Ps512 => Some(SignatureScheme::Pss(HashFunction::Sha512)),
             SignatureAlgorithm::Es256
             | SignatureAlgorithm::Es384
+            | SignatureAlgorithm::Es512
             | SignatureAlgorithm::Eddsa
             | SignatureAlgorithm::Esp256
             | SignatureAlgorithm::Esp384
+            | SignatureAlgorithm::Esp512
             | SignatureAlgorithm::Ed25519 => None,
         }
     }
@@ -118,6 +128,7 @@ impl SignatureAlgorithm {
         match curve {
             EllipticCurve::P256 => "ES256" == self.name() || "ESP256" == self.name(),
             EllipticCurve::P384 => "ES384" == self.name() || "ESP384" == self.name(),
+            EllipticCurve::P521 => "ES512" == self.name() || "ESP512" == self.name(),
         }
     }
 }

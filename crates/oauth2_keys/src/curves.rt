@@ -12,6 +12,7 @@ pub(crate) fn curve_name(curve: EllipticCurve) -> &'static str
     match curve {
         EllipticCurve::P256 => "P-256",
         EllipticCurve::P384 => "P-384",
+        EllipticCurve::P521 => "P-521",
     }
 }
 
@@ -22,6 +23,7 @@ pub(crate) fn curve_named(name: &str) -> Option<EllipticCurve>
     match name {
         "P-256" => Some(EllipticCurve::P256),
         "P-384" => Some(EllipticCurve::P384),
+        "P-521" => Some(EllipticCurve::P521),
         _ => None,
     }
 }

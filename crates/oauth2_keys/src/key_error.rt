@@ -49,10 +49,10 @@ pub enum KeyError {
     NotBase64(KeyMember),
     /// The key type (`kty`) is none of `RSA`, `EC` and `OKP`.
     UnknownType,
-    /// The curve (`crv`) is neither `P-256` nor `P-384` for `EC`, or not `Ed25519` for `OKP`.
+    /// The curve (`crv`) is not `P-256`, `P-384` or `P-521` for `EC`, or not `Ed25519` for `OKP`.
     UnknownCurve,
-    /// The coordinate does not have as many octets as those of the curve, which is 32 for `P-256` and
-    /// 48 for `P-384` (RFC 7518, 6.2.1.2 and 6.2.1.3).
+    /// The coordinate does not have as many octets as those of the curve, which is 32 for `P-256`,
+    /// 48 for `P-384` and 66 for `P-521` (RFC 7518, 6.2.1.2 and 6.2.1.3).
     WrongSize(KeyMember),
     /// The modulus or the exponent of an RSA key is refused.
     Rsa(RsaKeyError),
