@@ -1,5 +1,5 @@
-"""Cases of ECDSA signatures for tools/compare-signatures, over P-256 with SHA-256 and over P-384 with SHA-384, written from SEC 1
-(2.2.1 and 4.1) in whole numbers."""
+"""Cases of ECDSA signatures for tools/compare-signatures, over P-256 with SHA-256, over P-384 with SHA-384 and over P-521 with SHA-512,
+written from SEC 1 (2.2.1 and 4.1) in whole numbers."""
 import collections
 import hashlib
 import itertools
@@ -14,7 +14,7 @@ class Curve:
     def __init__(self, name, algorithm, size, p, n, b, g):
         self.name, self.algorithm, self.size = name, algorithm, size
         self.p, self.n, self.b, self.g = p, n, b, g
-        self.most = (1 << 8 * size) - 1
+        self.most, self.most_x = (1 << 8 * size) - 1, (1 << p.bit_length()) - 1
         self.hash_name = 'sha' + algorithm[2:]
 
     def added(self, a, b):
@@ -113,10 +113,10 @@ class Curve:
         key, r, s = self.through(self.lifted(rng.randrange(self.n, self.p - 1000), 1), e, rng)
         yield key, Case('x of n or more', message, self.joined(r, s))
         yield key, Case('x of n or more, not reduced', message, self.joined(r + self.n, s))
-        key, r, s = self.through(self.lifted(rng.randrange(1, (self.most - self.n) // 2), 1), e, rng)
+        key, r, s = self.through(self.lifted(rng.randrange(1, (self.most_x - self.n) // 2), 1), e, rng)
         yield key, Case('small x', message, self.joined(r, s))
         yield key, Case('small x, r + n', message, self.joined(r + self.n, s))
-        r, s = self.times(u, self.g)[0] % self.n, rng.randrange(1, self.most - self.n)
+        r, s = self.times(u, self.g)[0] % self.n, rng.randrange(1, self.most_x - self.n)
         key = self.times((s * u - e) * pow(r, -1, self.n), self.g)
         yield key, Case('small s', message, self.joined(r, s))
         yield key, Case('small s, s + n', message, self.joined(r, s + self.n))
@@ -153,7 +153,8 @@ class Curve:
         from cryptography import exceptions
         from cryptography.hazmat.primitives import hashes
         from cryptography.hazmat.primitives.asymmetric import ec, utils
-        curve, function = (ec.SECP256R1(), hashes.SHA256()) if self.size == 32 else (ec.SECP384R1(), hashes.SHA384())
+        curve, function = {32: (ec.SECP256R1(), hashes.SHA256()), 48: (ec.SECP384R1(), hashes.SHA384()),
+                           66: (ec.SECP521R1(), hashes.SHA512())}[self.size]
         public = ec.EllipticCurvePublicNumbers(*key, curve).public_key()
         for it in found:
             try:
@@ -176,7 +177,17 @@ P384 = Curve('P-384', 'ES384', 48,
              0xb3312fa7e23ee7e4988e056be3f82d19181d9c6efe8141120314088f5013875ac656398d8a2ed19d2a85c8edd3ec2aef,
              (0xaa87ca22be8b05378eb1c71ef320ad746e1d3b628ba79b9859f741e082542a385502f25dbf55296c3a545e3872760ab7,
               0x3617de4a96262c6f5d9e98bf9292dc29f8f41dbd289a147ce9da3113b5f0b8c00a60b1ce1d7e819d7a431d7c90ea0e5f))
-CURVES = (P256, P384)
+# SP 800-186, 3.2.1.5
+P521 = Curve('P-521', 'ES512', 66, (1 << 521) - 1,
+             int('01ffffffffffffffffffffffffffffffffffffffffffffffffffffffffffffffff'
+                 'fa51868783bf2f966b7fcc0148f709a5d03bb5c9b8899c47aebb6fb71e91386409', 16),
+             int('0051953eb9618e1c9a1f929a21a0b68540eea2da725b99b315f3b8b489918ef109'
+                 'e156193951ec7e937b1652c0bd3bb1bf073573df883d2c34f1ef451fd46b503f00', 16),
+             (int('00c6858e06b70404e9cd9e3ecb662395b4429c648139053fb521f828af606b4d3d'
+                  'baa14b5e77efe75928fe1dc127a2ffa8de3348b3c1856a429bf97e7e31c2e5bd66', 16),
+              int('011839296a789a3bc0045c8a5fb42c7d1bd998f54449579b446817afbd17273e66'
+                  '2c97ee72995ef42640c550b9013fad0761353c7086a272c24088be94769fd16650', 16)))
+CURVES = (P256, P384, P521)
 
 
 def cases(number, rng):

@@ -39,6 +39,12 @@ PRIVATE = 0x6b9d3dad2e1b8c1c05b19875b6659f4de23c3b667bf297ba9aa47740787137d896d5
 SIGNATURE_OF_SAMPLE = bytes.fromhex(
     '94edbb92a5ecb8aad4736e56c691916b3f88140666ce9fa73d64c4ea95ad133c81a648152e44acf96e36dd1e80fabe46'
     '99ef4aeb15f178cea1fe40db2603138f130e740a19624526203b6351d0a3a94fa329c145786e679e7b82c71a38628ac8')
+# The same of A.2.7, with SHA-512.
+PRIVATE_OF_P521 = int('00fad06daa62ba3b25d2fb40133da757205de67f5bb0018fee8c86e1b68c7e75ca'
+                      'a896eb32f1f47c70855836a6d16fcc1466f6d8fbec67db89ec0c08b0e996b83538', 16)
+SIGNATURE_BY_P521 = bytes.fromhex(
+    '00c328fafcbd79dd77850370c46325d987cb525569fb63c5d3bc53950e6d4c5f174e25a1ee9017b5d450606add152b534931d7d4e8455cc91f9b15bf05ec36e377fa'
+    '00617cce7cf5064806c467f678d3b4080d6f1cc50af26ca209417308281b68af282623eaa63e5b5c0723d8b8c37ff0777b1a20f8ccb1dccc43997f1ee0e44da4a67a')
 
 
 def judged_by(verdict):
@@ -145,10 +151,12 @@ class Signatures(unittest.TestCase):
         self.assertFalse(curve.is_signature(POINT, SIGNED_BY_POINT + b'.', SIGNATURE_BY_POINT))
         self.assertFalse(curve.is_signature(POINT, SIGNED_BY_POINT, SIGNATURE_BY_POINT + b'\0'))
 
-    def test_another_example_by_a_point(self):
-        curve, key = ecdsa_cases.P384, ecdsa_cases.P384.times(PRIVATE, ecdsa_cases.P384.g)
-        self.assertTrue(curve.is_signature(key, b'sample', SIGNATURE_OF_SAMPLE))
-        self.assertFalse(curve.is_signature(key, b'test', SIGNATURE_OF_SAMPLE))
+    def test_other_examples_by_a_point(self):
+        for curve, private, signature in ((ecdsa_cases.P384, PRIVATE, SIGNATURE_OF_SAMPLE),
+                                          (ecdsa_cases.P521, PRIVATE_OF_P521, SIGNATURE_BY_P521)):
+            key = curve.times(private, curve.g)
+            self.assertTrue(curve.is_signature(key, b'sample', signature))
+            self.assertFalse(curve.is_signature(key, b'test', signature))
 
     def compared_by_points(self, verdict, number):
         """How many cases of ECDSA differ, and what was printed."""
