@@ -1,9 +1,10 @@
 //! Checks the signatures that standard input lists, and prints what comes of each line.
 //!
-//! A line `P-256 X Y` or `P-384 X Y` takes a key, and a line `ES256 MESSAGE SIGNATURE` or `ES384
-//! MESSAGE SIGNATURE` checks a signature by it. Octets are written in hex, and no octets as `-`. A
-//! line that begins with `#` is a heading, and is printed as it is. The file `stdout` has what has
-//! to be printed for the file `stdin`. `tools/compare-signatures` runs the program too.
+//! A line `P-256 X Y`, `P-384 X Y` or `P-521 X Y` takes a key, and a line `ES256 MESSAGE SIGNATURE`
+//! checks a signature by it, or one with `ES384` or `ES512`. Octets are written in hex, and no
+//! octets as `-`. A line that begins with `#` is a heading, and is printed as it is. The file
+//! `stdout` has what has to be printed for the file `stdin`. `tools/compare-signatures` runs the
+//! program too.
 
 #![tactic(auto)]
 
@@ -24,6 +25,7 @@ fn curve_of(name: &str) -> Option<EllipticCurve> {
     match name {
         "P-256" => Some(EllipticCurve::P256),
         "P-384" => Some(EllipticCurve::P384),
+        "P-521" => Some(EllipticCurve::P521),
         _ => None,
     }
 }
@@ -32,6 +34,7 @@ fn algorithm_of(curve: EllipticCurve) -> &'static str {
     match curve {
         EllipticCurve::P256 => "ES256",
         EllipticCurve::P384 => "ES384",
+        EllipticCurve::P521 => "ES512",
     }
 }
 
