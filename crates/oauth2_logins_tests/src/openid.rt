@@ -1,0 +1,5 @@
+//! Tests of ID tokens.
+
+mod checks;
+mod reads;
+mod support;

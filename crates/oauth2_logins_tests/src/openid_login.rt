@@ -1,0 +1,6 @@
+//! Tests of logins with OpenID Connect.
+
+mod ends;
+mod providers;
+mod starts;
+mod support;
