@@ -17,16 +17,16 @@ SOURCES = os.path.join(repository.ROOT, 'docs', 'connector')
 Made = collections.namedtuple('Made', 'files uses handle')
 PROGRAMS = {
     'token': Made({'main.rt.txt': 'main.rt', 'tcp.rt.txt': 'tcp.rt'},
-                  'oauth2 oauth2_deadlines oauth2_http1 httparse base64 thiserror anyhow', 'Net'),
+                  'oauth2 oauth2_http1_connections oauth2_http1 httparse base64 thiserror anyhow', 'Net'),
     'resource_server': Made({'resource_server.rt.txt': 'main.rt', 'kept.rt.txt': 'kept.rt', 'tcp.rt.txt': 'tcp.rt'},
-                            'oauth2_resource_server oauth2_introspection_cache oauth2_http1_connections oauth2 oauth2_deadlines oauth2_http1 '
+                            'oauth2_resource_server oauth2_introspection_cache oauth2_http1_connections oauth2 oauth2_http1 '
                             'jiff httparse base64 thiserror anyhow', 'Net'),
     'token_by_child': Made({'child_main.rt.txt': 'main.rt', 'child.rt.txt': 'child.rt'}, 'oauth2 oauth2_http1 anyhow', 'Processes'),
 }
 # A program that tools/bench-introspections sets beside one of them.
 MEASURED = {
     'one_each': Made({'../../tools/one_each.rt.txt': 'main.rt', 'tcp.rt.txt': 'tcp.rt'},
-                     'oauth2_introspection_cache oauth2 oauth2_deadlines oauth2_http1 jiff httparse base64 thiserror anyhow', 'Net'),
+                     'oauth2_introspection_cache oauth2 oauth2_http1_connections oauth2_http1 jiff httparse base64 thiserror anyhow', 'Net'),
 }
 
 

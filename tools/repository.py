@@ -43,6 +43,15 @@ def pages(root=ROOT):
     return ['README.md', 'CONTRIBUTING.md', 'CHANGELOG.md', 'SECURITY.md', *(os.path.join('docs', it) for it in docs)]
 
 
+def pages_of_crates(root=ROOT):
+    """The paths of the pages of the crates, from the top of the repository: of each its README.md, and then those of its modules."""
+    found = []
+    for crate in sorted(os.listdir(os.path.join(root, 'crates'))):
+        names = [it for it in os.listdir(os.path.join(root, 'crates', crate)) if it.endswith('.md')]
+        found += [os.path.join('crates', crate, it) for it in sorted(names, key=lambda it: (it != 'README.md', it))]
+    return found
+
+
 def below(root=ROOT):
     """The crates of the repository that each one stands on, lowest first."""
     uses, found = {name: row.partition(':')[2].split() for name, row in lines(root).items()}, {}

@@ -2,7 +2,7 @@
 
 use crate::replies::{add_field, reply_of, request_of};
 use http_header::{HeaderMap, RETRY_AFTER};
-use oauth2_retries::{RetryLimits, Retrying, TellsUnsent, WithSleep};
+use oauth2_http1_connections::{RetryLimits, Retrying, TellsUnsent, WithSleep};
 use oauth2_wire::{AlwaysReady, HttpRequest, HttpResponse, SyncHttpClient};
 use std::alloc::Global;
 use std::io::{self, Write};

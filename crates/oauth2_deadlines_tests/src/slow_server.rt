@@ -2,8 +2,8 @@
 
 ghost use Rattle.std.specs.Prelude.{◌≤◌, length};
 
-use oauth2_deadlines::{LimitedConnect, LimitedStream, MonotonicClock};
 use oauth2_http1::{Origin, Receive, Transmit};
+use oauth2_http1_connections::{LimitedConnect, LimitedStream, MonotonicClock};
 use std::io::{self, ErrorKind};
 use std::time::Duration;
 

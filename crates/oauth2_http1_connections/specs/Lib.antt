@@ -6,3 +6,5 @@ pub mod Law
 pub mod KeptFromBytes
 pub mod Display
 pub mod private
+pub mod deadlines
+pub mod retries

@@ -1,5 +1,0 @@
-use Rattle.std.proofs.Common.{inl, refl}
-use Rattle.oauth2_deadlines.proofs.stream.DeadlineStreamReceive.receive.Goals as goal
-
-pub returns-clause-step : goal.returns-clause-step
-returns-clause-step g c = inl (c.limit.new.self, c.in_ok-limit.ensures.limits, c.receive.ensures.step, refl, refl)

@@ -1,5 +1,0 @@
-use Rattle.oauth2_retries.proofs.LawLemmas.{copy_is_the_request}
-use Rattle.oauth2_retries.proofs.law.each_copy_is_the_request.Goals as goal
-
-pub returns : goal.returns
-returns c = copy_is_the_request
