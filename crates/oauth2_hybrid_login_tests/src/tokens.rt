@@ -2,10 +2,9 @@
 
 use jiff::Timestamp;
 use oauth2::{AuthorizationCode, ClientId, ClientSecret, FromJson};
-use oauth2_hybrid_login::{FrontExpected, FrontTokenError, VerifiedFrontToken};
 use oauth2_keys::{JsonWebKeySet, SecretAlgorithm, SignatureAlgorithm};
 use oauth2_openid::{Expected, IdToken, IssuerRule, Nonce};
-use oauth2_verified_login::SignatureCheck;
+use oauth2_verified_login::{FrontExpected, FrontTokenError, SignatureCheck, VerifiedFrontToken};
 use std::alloc::{AllocError, Global};
 use std::io::{self, Write};
 use std::time::Duration;

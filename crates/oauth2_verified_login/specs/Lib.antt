@@ -1,3 +1,4 @@
 pub mod Unverified
 pub mod End
 pub mod Provider
+pub mod hybrid

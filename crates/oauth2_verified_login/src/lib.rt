@@ -3,10 +3,12 @@
 
 #![tactic(auto)]
 
+mod hybrid;
 mod login_end;
 mod login_error;
 mod provider;
 
+pub use hybrid::{FrontExpected, FrontTokenError, VerifiedFrontToken};
 pub use login_end::{UnverifiedLogin, VerifiedLoginEnd};
 pub use login_error::VerifiedLoginError;
 pub use oauth2_keys::SignatureCheck;
