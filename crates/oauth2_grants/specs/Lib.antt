@@ -5,3 +5,4 @@ pub mod TokenExchange
 pub mod private
 pub mod ExchangeErrors
 pub mod ExchangeFields
+pub mod authorization_details

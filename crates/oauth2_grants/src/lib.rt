@@ -3,6 +3,7 @@
 
 #![tactic(auto)]
 
+mod authorization_details;
 mod bearer_grants;
 mod exchange_error;
 mod exchange_fields;
@@ -12,6 +13,10 @@ mod token_client;
 mod token_exchange;
 mod token_type;
 
+pub use authorization_details::{
+    AuthorizationDetails, AuthorizationDetailsFields, AuthorizationDetailsMember, DetailsFault,
+    RichAuthorizationRequest,
+};
 pub use bearer_grants::{JWT_BEARER, SAML2_BEARER};
 pub use exchange_error::{TokenExchangeErrorResponse, TokenExchangeErrorType, exchange_error_laws};
 pub use exchange_fields::{ExchangeFields, TokenExchangeResponse};

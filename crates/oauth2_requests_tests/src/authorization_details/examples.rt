@@ -7,7 +7,7 @@ use oauth2::{
     AuthUrl, AuthorizationCode, ClientId, CsrfToken, EndpointNotSet, EndpointSet, RedirectUrl,
     TokenUrl,
 };
-use oauth2_authorization_details::{AuthorizationDetails, RichAuthorizationRequest};
+use oauth2_grants::{AuthorizationDetails, RichAuthorizationRequest};
 use oauth2_tests_support::{check_text, text};
 use serde_json::json;
 use std::alloc::Global;

@@ -1,6 +1,6 @@
 //! Texts that are no authorization details (RFC 9396, section 2).
 
-use oauth2_authorization_details::{AuthorizationDetails, DetailsFault};
+use oauth2_grants::{AuthorizationDetails, DetailsFault};
 use oauth2_tests_support::{check_display, check_equal};
 use std::alloc::Global;
 use std::test::Fail;

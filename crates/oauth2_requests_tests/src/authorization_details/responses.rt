@@ -3,7 +3,7 @@
 use crate::authorization_details::examples::{COMPACT_PAYMENT, PAYMENT};
 use oauth2::basic::BasicTokenType;
 use oauth2::{ParseCause, StandardTokenResponse, TryClone};
-use oauth2_authorization_details::AuthorizationDetailsFields;
+use oauth2_grants::AuthorizationDetailsFields;
 use oauth2_tests_support::{check, check_fault, check_text, check_written, read};
 use std::alloc::Global;
 use std::test::Fail;
