@@ -6,12 +6,12 @@ use Rattle.oauth2_json.specs.Reading.{Reading}
 use Rattle.oauth2_keys.specs.KeySet.{set_reading}
 use Rattle.oauth2_keys.specs.declared.algorithm.SignatureAlgorithm.{SignatureAlgorithm}
 use Rattle.oauth2_keys.specs.declared.json_web_key.ListedKey.{ListedKey}
-use Rattle.oauth2_jwt_access_tokens.specs.AccessToken.{AccessToken, access_token_reading}
-use Rattle.oauth2_jwt_access_tokens.specs.ErrorTexts.{access_token_fault_text}
-use Rattle.oauth2_jwt_access_tokens.specs.Introspection.{introspection_of}
-use Rattle.oauth2_jwt_access_tokens.specs.Rules.{Expectation, AccessTokenHolds, IsFirstFault}
-use Rattle.oauth2_jwt_access_tokens.specs.declared.expected.SenderConstraint.TheVariants.{NoKeyProven}
-use Rattle.oauth2_jwt_access_tokens.specs.declared.fault.AccessTokenFault.{AccessTokenFault}
+use Rattle.oauth2_signed_tokens.specs.access_tokens.AccessToken.{AccessToken, access_token_reading}
+use Rattle.oauth2_signed_tokens.specs.access_tokens.ErrorTexts.{access_token_fault_text}
+use Rattle.oauth2_signed_tokens.specs.access_tokens.Introspection.{introspection_of}
+use Rattle.oauth2_signed_tokens.specs.access_tokens.Rules.{Expectation, AccessTokenHolds, IsFirstFault}
+use Rattle.oauth2_signed_tokens.specs.declared.access_tokens.expected.SenderConstraint.TheVariants.{NoKeyProven}
+use Rattle.oauth2_signed_tokens.specs.declared.access_tokens.fault.AccessTokenFault.{AccessTokenFault}
 use Rattle.oauth2_world.specs.Clock.{Clock, reading_of}
 use Rattle.oauth2_world.specs.declared.event.FaultKind.TheVariants.{BadAccessToken, BadKeys}
 use Rattle.oauth2_request_commands.specs.Introspect.{introspection_json}

@@ -3,8 +3,8 @@
 ghost use Rattle.std.specs.Prelude.{IfOk, string_bytes};
 ghost use Rattle.oauth2_commands.specs.AccessToken as spec;
 ghost use Rattle.oauth2_commands.specs.IdToken.{signature_algorithm};
-ghost use Rattle.oauth2_jwt_access_tokens.specs.Introspection.{introspection_of};
-ghost use Rattle.oauth2_jwt_access_tokens.specs.Seen.{access_token_of, verified_token_of};
+ghost use Rattle.oauth2_signed_tokens.specs.access_tokens.Introspection.{introspection_of};
+ghost use Rattle.oauth2_signed_tokens.specs.access_tokens.Seen.{access_token_of, verified_token_of};
 ghost use Rattle.oauth2_keys.specs.KeySet.{set_reading};
 ghost use Rattle.oauth2_request_commands.specs.Introspect.{introspection_json};
 ghost use Rattle.oauth2_request_commands.specs.Out.{Adds, AddsOutput, success_output};
@@ -15,12 +15,12 @@ use crate::id_token::{show_keys_error, show_read_error, show_unchecked, signatur
 use jiff::Timestamp;
 use oauth2::basic::BasicTokenIntrospectionResponse;
 use oauth2::{EmptyExtraTokenFields, FromJson};
-use oauth2_jwt_access_tokens::{
-    ExpectedAccessToken, JwtAccessToken, SenderConstraint, VerifiedAccessToken,
-};
 use oauth2_keys::{JsonWebKeySet, SignatureAlgorithm};
 use oauth2_request_commands::{RunStatus, show_answer, show_error_text};
 use oauth2_script::AccessTokenParams;
+use oauth2_signed_tokens::{
+    ExpectedAccessToken, JwtAccessToken, SenderConstraint, VerifiedAccessToken,
+};
 use oauth2_world::{Events, FaultKind, ScriptedClock};
 use std::alloc::{AllocError, Global};
 

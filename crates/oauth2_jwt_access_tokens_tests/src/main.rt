@@ -14,12 +14,12 @@ use jiff::Timestamp;
 use oauth2_codes::BasicTokenType;
 use oauth2_introspection::StandardTokenIntrospectionResponse;
 use oauth2_json::{FromJson, ToJson};
-use oauth2_jwt_access_tokens::{
+use oauth2_keys::{JsonWebKeySet, SignatureAlgorithm};
+use oauth2_replies::EmptyExtraTokenFields;
+use oauth2_signed_tokens::{
     ExpectedAccessToken, JwtAccessToken, JwtAccessTokenReadError, SenderConstraint,
     VerifiedAccessToken,
 };
-use oauth2_keys::{JsonWebKeySet, SignatureAlgorithm};
-use oauth2_replies::EmptyExtraTokenFields;
 use std::alloc::Global;
 use std::io::{self, BufRead, BufReader, Write};
 use std::time::Duration;

@@ -15,11 +15,11 @@
 use jiff::Timestamp;
 use oauth2_json::FromJson;
 use oauth2_keys::{JsonWebKeySet, SecretAlgorithm, SignatureAlgorithm, SignatureCheck};
-use oauth2_logout_tokens::{
+use oauth2_openid::IssuerRule;
+use oauth2_signed_tokens::{
     ClientSession, ExpectedLogoutToken, LogoutToken, LogoutTokenReadError, RefusedLogoutToken,
     TypeRule, VerifiedLogoutToken,
 };
-use oauth2_openid::IssuerRule;
 use oauth2_types::{ClientId, ClientSecret};
 use std::alloc::Global;
 use std::io::{self, BufRead, BufReader, Write};

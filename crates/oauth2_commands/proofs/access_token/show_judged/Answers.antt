@@ -1,7 +1,7 @@
 use Rattle.std.proofs.Common.{refl, inl, inr, subst}
 use Rattle.std.proofs.lemmas.Result.{IfOk-weaker}
-use Rattle.oauth2_jwt_access_tokens.specs.AccessToken.{AccessToken}
-use Rattle.oauth2_jwt_access_tokens.specs.Introspection.{introspection_of}
+use Rattle.oauth2_signed_tokens.specs.access_tokens.AccessToken.{AccessToken}
+use Rattle.oauth2_signed_tokens.specs.access_tokens.Introspection.{introspection_of}
 use Rattle.oauth2_request_commands.specs.Introspect.{introspection_json}
 use Rattle.oauth2_request_commands.specs.Out.{AddsOutput, success_output}
 use Rattle.oauth2_commands.proofs.IdTokens.{added}

@@ -1,0 +1,2 @@
+pub mod access_tokens
+pub mod logout_tokens
