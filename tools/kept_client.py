@@ -1,11 +1,12 @@
-"""The client that uses connections again, as the program oauth2_http1_connections_program, and what it asks of a network; for
-tools/compare-connections."""
+"""The client that uses connections again, by the lines `client` and `call` of the program oauth2_http1_tests, and what it asks of a
+network; for tools/compare-connections."""
 import collections
 import subprocess
 
+import program
 from http_replies import Read, Refused
 
-NAME = 'oauth2_http1_connections_program'
+NAME = program.HTTP1
 
 # A request; the fields are pairs. And what a call of it came to: a Read or a Refused, whether it was told as one that was not answered on
 # a used connection (None where not; else whether the program says that it may be sent again), the number of the connection that it was

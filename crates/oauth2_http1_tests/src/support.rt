@@ -1,11 +1,22 @@
-//! Functions that several test files share.
+//! What several modules share: requests by their texts, and bytes that come in pieces.
 
-use crate::exchange::{Answer, RequestTexts, call_once, request_of, show};
-use crate::server::show_request;
-use crate::wire::Wire;
-use oauth2_http1::Bounds;
-use std::fmt::Display;
-use std::process::Abort;
+ghost use Rattle.std.specs.Prelude.{◌≤◌, length};
+
+use http::request::Parts;
+use http::{Method, Request, Version};
+use http_header::{HeaderMap, HeaderName, HeaderValue};
+use http_uri::Uri;
+use oauth2_wire::HttpRequest;
+use std::alloc::Global;
+
+/// The texts of a request.
+#[derive(Clone, Copy)]
+pub struct RequestTexts<'a> {
+    pub method: &'a str,
+    pub target: &'a str,
+    pub fields: &'a [(&'a str, &'a str)],
+    pub body: &'a str,
+}
 
 /// A request without a body.
 pub const GET: RequestTexts<'static> = RequestTexts {
@@ -15,60 +26,68 @@ pub const GET: RequestTexts<'static> = RequestTexts {
     body: "",
 };
 
-/// The bytes of `GET`, by RFC 9112, 3 and 3.2, with the header fields that the client adds.
-pub const GET_BYTES: &str = "GET /jwks HTTP/1.1\r\nhost: as.example\r\n\
-accept-encoding: identity\r\nconnection: close\r\n\r\n";
-
-/// The outcome of one call.
-#[derive(Drop)]
-pub struct Outcome {
-    /// Whether the client opened the connection.
-    pub is_open: bool,
-    /// The reply or the error.
-    pub text: String,
+fn method_of(alloc: Global, text: &str) -> Option<Method> {
+    Method::from_bytes(alloc, text.as_bytes()).ok()
 }
 
-/// The reply or the error as a text.
-pub fn text_of(rt: &(impl Abort + AllocGlobal), answer: &Answer) -> String {
-    let mut text = Vec::new(rt.alloc());
-    show(&mut text, answer).expect(rt, "a text");
-    String::from_utf8(text).expect(rt, "a text")
+fn target_of(alloc: Global, text: &str) -> Option<Uri> {
+    Uri::from_str(alloc, text).ok()
 }
 
-/// The request that the kit's server reads from these bytes, as a text.
-pub fn text_of_request(rt: &(impl Abort + AllocGlobal), bytes: &str) -> String {
-    let mut text = Vec::new(rt.alloc());
-    show_request(&mut text, bytes.as_bytes()).expect(rt, "a text");
-    String::from_utf8(text).expect(rt, "a text")
+fn head_of(alloc: Global, method: &str, target: &str, headers: HeaderMap) -> Option<Parts> {
+    let method = method_of(alloc, method)?;
+    let uri = target_of(alloc, target)?;
+    Some(Parts {
+        method,
+        uri,
+        version: Version::HTTP_11,
+        headers,
+    })
 }
 
-/// Calls a client once over this connection.
-pub fn outcome_of(
-    rt: &(impl Abort + AllocGlobal),
-    wire: &mut Wire<'_>,
-    bounds: Bounds,
-    request: RequestTexts<'_>,
-) -> Outcome {
-    let request = request_of(rt.alloc(), request).expect(rt, "a request");
-    let (is_open, answer) = call_once(rt.alloc(), wire, bounds, request);
-    Outcome {
-        is_open,
-        text: text_of(rt, &answer),
+/// Adds a field. `None` if memory runs out, or if the name or the value is not valid.
+pub fn add_field(alloc: Global, fields: &mut HeaderMap, name: &str, value: &[u8]) -> Option<()> {
+    let name = HeaderName::from_bytes(alloc, name.as_bytes()).ok()?;
+    let value = HeaderValue::from_bytes(alloc, value).ok()?;
+    fields.append(name, value).ok()?;
+    Some(())
+}
+
+fn fields_of(alloc: Global, fields: &[(&str, &str)]) -> Option<HeaderMap> {
+    let mut map = HeaderMap::new(alloc);
+    for (name, value) in fields {
+        add_field(alloc, &mut map, name, value.as_bytes())?;
     }
+    Some(map)
 }
 
-/// Checks a condition for one row of a table. (A call is much cheaper to prove than the assertion.)
-pub fn assert_at(rt: &impl Abort, is_so: bool, row: &str) {
-    assert!(rt; is_so, "at {row}");
+/// The request of this method and this target. `None` if memory runs out, or if one of them is not
+/// valid.
+pub fn request_with(
+    alloc: Global,
+    method: &str,
+    target: &str,
+    headers: HeaderMap,
+    body: Vec<u8>,
+) -> Option<HttpRequest> {
+    Some(Request::from_parts(head_of(alloc, method, target, headers)?, body))
 }
 
-/// Checks a text for one row of a table.
-pub fn assert_text_at(rt: &impl Abort, found: &str, wanted: &str, row: &str) {
-    assert!(rt; found == wanted, "at {row}: {found}");
+/// The request of these texts. `None` if memory runs out, or if one of them is not valid in a
+/// request.
+pub fn request_of(alloc: Global, texts: RequestTexts<'_>) -> Option<HttpRequest> {
+    let body = texts.body.as_bytes().to_vec(alloc).ok()?;
+    let headers = fields_of(alloc, texts.fields)?;
+    request_with(alloc, texts.method, texts.target, headers, body)
 }
 
-/// Checks the text that a value displays.
-pub fn assert_displayed_as<T: Display>(rt: &(impl Abort + AllocGlobal), value: &T, wanted: &str) {
-    let text = format!(in rt.alloc(); "{value}").expect(rt, "a text");
-    assert_text_at(rt, text.as_str(), wanted, wanted);
+/// Reads at most `most` of the bytes that are left into `chunk`, and returns how many came.
+pub fn read_piece(left: &mut &[u8], most: usize, chunk: &mut [u8]) -> usize
+    ensures { result ≤ length chunk.new }
+{
+    let len = left.len().min(most).min(chunk.len());
+    let (piece, rest) = left.split_at(len);
+    chunk[..len].copy_from_slice(piece);
+    *left = rest;
+    len
 }

@@ -1,9 +1,0 @@
-//! Tests of `oauth2_http1_connections`: exchanges with a server in memory, by a clock that goes on by one
-//! second whenever it is read. Each write, flush and read takes one reading.
-
-#![tactic(auto)]
-
-#[cfg(test)]
-mod exchanges;
-#[cfg(test)]
-mod slow_server;
