@@ -138,7 +138,7 @@ class Curve:
             yield key, found
 
     def script(self, key, found):
-        """The lines for the program, and what it has to print of the keys that are offered first."""
+        """The rows for the program, and what it has to print of the keys that are offered first."""
         x, y = (self.octets(it) for it in key)
         p, most, nothing, above = (self.octets(it) for it in (self.p, self.most, 0, (key[1] + 1) % self.p))
         sizes, large, off = 'a coordinate has the wrong size', 'a coordinate is not below p', 'the point is not on the curve'

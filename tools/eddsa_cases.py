@@ -172,7 +172,7 @@ def offered(key):
 
 
 def script(key, found):
-    """The lines for the program, and what it has to print of the keys that are offered first."""
+    """The rows for the program, and what it has to print of the keys that are offered first."""
     lines = ['Ed25519 ' + (it.hex() or '-') for it, _ in offered(key)]
     lines += ['EdDSA %s %s' % (it.message.hex() or '-', it.signature.hex() or '-') for it in found]
     return '\n'.join(lines) + '\n', [it for _, it in offered(key)]

@@ -49,7 +49,7 @@ SIGNATURE_BY_P521 = bytes.fromhex(
 
 def judged_by(verdict):
     """What takes the place of a run of the program: the keys judged rightly, and each signature by this function."""
-    def told(_, text):
+    def told(_, __, text):
         lines = [it.replace('-', '').split(' ') for it in text.splitlines()]
         size = (len(lines[4][1]) + 1) // 2
         said = ['the modulus is even', 'the exponent is less than 3', 'the exponent is even', 'the exponent has more than 64 bits',
@@ -83,7 +83,7 @@ SIGNATURE_BY_POINT = decoded('DtEhU3ljbEg8L38VWAfUAqOyKAM6-Xx-F4GawxaepmXFCgfTjD
 
 def judged_by_point(verdict):
     """What takes the place of a run of the program for ECDSA: the keys judged rightly, and each signature by this function."""
-    def told(_, text):
+    def told(_, __, text):
         lines = [it.split(' ') for it in text.splitlines()]
         curve = next(it for it in ecdsa_cases.CURVES if it.name == lines[8][0])
         key = tuple(int(it, 16) for it in lines[8][1:])
@@ -106,7 +106,7 @@ SIGNATURE_BY_OCTETS = bytes.fromhex('6291d657deec24024827e69c3abe01a30ce548a2847
 
 def judged_by_octets(verdict):
     """What takes the place of a run of the program for Ed25519: the keys judged rightly, and each signature by this function."""
-    def told(_, text):
+    def told(_, __, text):
         lines = [[bytes.fromhex(word.replace('-', '')) for word in it.split(' ')[1:]] for it in text.splitlines()]
         offered = [it[0] for it in lines if len(it) == 1]
         said = [it for _, it in eddsa_cases.offered(offered[-1])]
@@ -194,14 +194,20 @@ class Signatures(unittest.TestCase):
         self.assertGreater(differences, 5)
 
 
+class Program(unittest.TestCase):
+    def test_each_line_begins_with_the_module(self):
+        """A program that prints what it gets."""
+        self.assertEqual(TOOL.told('cat', 'ecdsa', 'P-256 00 -\nES256 - 01\n'), ['ecdsa P-256 00 -', 'ecdsa ES256 - 01'])
+
+
 class Batches(unittest.TestCase):
     @staticmethod
     def script(found):
         return ''.join('%s\n' % it for it in ['the key', *found]), ['the key']
 
     def judged(self, told, count=2 * TOOL.BATCH + 7):
-        with mock.patch.object(TOOL, 'told', lambda _, text: told(text.splitlines())):
-            return TOOL.judged('/program', self.script, [*map(str, range(count))])
+        with mock.patch.object(TOOL, 'told', lambda _, __, text: told(text.splitlines())):
+            return TOOL.judged('/program', 'rsa', self.script, [*map(str, range(count))])
 
     def test_each_has_the_key(self):
         sizes = []

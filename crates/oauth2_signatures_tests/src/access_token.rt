@@ -1,19 +1,16 @@
-//! Reads the JWT access tokens and keys that standard input lists, and checks the tokens.
+//! The rows `access_token`.
 //!
-//! A line `set JSON` reads the keys of the issuer. A line `expect ISSUER AUDIENCE ALGORITHM LEEWAY`
-//! sets what a resource server expects, with the leeway in seconds. A line `says TOKEN` prints what
-//! a token has, and a line `scope SCOPE TOKEN` whether it has a scope. A line `check SECOND TOKEN`
-//! checks a token at that second since 1970. A line `introspect SECOND TOKEN` prints a token that
-//! passes the check, in the form of an introspection response. A line that begins with `#` is a
-//! heading, and is printed as it is. The file `stdout` has the expected output for the file
-//! `stdin`.
+//! A row `set JSON` reads the keys of the issuer. A row `expect ISSUER AUDIENCE ALGORITHM LEEWAY`
+//! sets what a resource server expects, with the leeway in seconds. A row `says TOKEN` prints what a
+//! JWT access token has, and a row `scope SCOPE TOKEN` whether it has a scope. A row
+//! `check SECOND TOKEN` checks a token at that second since 1970. A row `introspect SECOND TOKEN`
+//! prints a token that passes the check, in the form of an introspection response.
 
-#![tactic(auto)]
-
+use crate::rows::{key_set_of, moment_and_token, set};
 use jiff::Timestamp;
 use oauth2_codes::BasicTokenType;
 use oauth2_introspection::StandardTokenIntrospectionResponse;
-use oauth2_json::{FromJson, ToJson};
+use oauth2_json::ToJson;
 use oauth2_keys::{JsonWebKeySet, SignatureAlgorithm};
 use oauth2_replies::EmptyExtraTokenFields;
 use oauth2_signed_tokens::{
@@ -21,32 +18,13 @@ use oauth2_signed_tokens::{
     VerifiedAccessToken,
 };
 use std::alloc::Global;
-use std::io::{self, BufRead, BufReader, Write};
+use std::io::{self, Write};
 use std::time::Duration;
 
 type Response = StandardTokenIntrospectionResponse<EmptyExtraTokenFields, BasicTokenType>;
 
-// What the lines so far have set.
-struct Server {
-    keys: JsonWebKeySet,
-    expected: ExpectedAccessToken,
-}
-
-impl Drop for Server {
-    fn drop(self) {
-        let Server {
-            keys: _,
-            expected: _,
-        } = self;
-    }
-}
-
-fn read_set(alloc: Global, text: &str) -> Option<JsonWebKeySet> {
-    JsonWebKeySet::from_body(alloc, text.as_bytes()).ok()
-}
-
-fn read_expected(alloc: Global, line: &str) -> io::Result<Option<ExpectedAccessToken>> {
-    let mut words = line.split(' ');
+fn read_expected(alloc: Global, words: &str) -> io::Result<Option<ExpectedAccessToken>> {
+    let mut words = words.split(' ');
     let issuer = words.next().unwrap_or("");
     let audience = words.next().unwrap_or("");
     let Some(algorithm) = SignatureAlgorithm::from_name(words.next().unwrap_or("")) else {
@@ -64,10 +42,6 @@ fn read_expected(alloc: Global, line: &str) -> io::Result<Option<ExpectedAccessT
         constraint: SenderConstraint::NoKeyProven,
         leeway: Duration::from_secs(u64::from(seconds)),
     }))
-}
-
-fn read_moment(text: &str) -> Option<Timestamp> {
-    Timestamp::from_second(text.parse::<i64>().ok()?).ok()
 }
 
 fn write_said<W: Write>(token: &JwtAccessToken, writer: &mut W) -> io::Result<()> {
@@ -103,8 +77,8 @@ fn write_says<W: Write>(alloc: Global, text: &str, writer: &mut W) -> io::Result
     }
 }
 
-fn write_has_scope<W: Write>(alloc: Global, line: &str, writer: &mut W) -> io::Result<()> {
-    let (scope, text) = line.split_once(' ').unwrap_or(("", ""));
+fn write_has_scope<W: Write>(alloc: Global, words: &str, writer: &mut W) -> io::Result<()> {
+    let (scope, text) = words.split_once(' ').unwrap_or(("", ""));
     match JwtAccessToken::from_text(alloc, text) {
         Ok(token) => writeln!(writer, "{}", token.has_scope(scope)),
         Err(error) => write_no_token(error, writer),
@@ -113,12 +87,11 @@ fn write_has_scope<W: Write>(alloc: Global, line: &str, writer: &mut W) -> io::R
 
 fn write_checked<W: Write>(
     alloc: Global,
-    server: &Server,
-    line: &str,
+    server: &ResourceServer,
+    words: &str,
     writer: &mut W,
 ) -> io::Result<()> {
-    let (second, text) = line.split_once(' ').unwrap_or(("", ""));
-    let Some(now) = read_moment(second) else {
+    let Some((now, text)) = moment_and_token(words) else {
         return writeln!(writer, "?");
     };
     match JwtAccessToken::from_text(alloc, text) {
@@ -152,7 +125,7 @@ fn write_response<W: Write>(
 // Prints the token in the form of an introspection response, or why it is refused.
 fn write_judged<W: Write>(
     alloc: Global,
-    server: &Server,
+    server: &ResourceServer,
     token: JwtAccessToken,
     now: Timestamp,
     writer: &mut W,
@@ -165,12 +138,11 @@ fn write_judged<W: Write>(
 
 fn write_introspected<W: Write>(
     alloc: Global,
-    server: &Server,
-    line: &str,
+    server: &ResourceServer,
+    words: &str,
     writer: &mut W,
 ) -> io::Result<()> {
-    let (second, text) = line.split_once(' ').unwrap_or(("", ""));
-    let Some(now) = read_moment(second) else {
+    let Some((now, text)) = moment_and_token(words) else {
         return writeln!(writer, "?");
     };
     match JwtAccessToken::from_text(alloc, text) {
@@ -179,95 +151,65 @@ fn write_introspected<W: Write>(
     }
 }
 
-fn write_line<W: Write>(
+fn write_result<W: Write>(
     alloc: Global,
-    server: &Server,
-    line: &str,
+    server: &ResourceServer,
+    row: &str,
     writer: &mut W,
 ) -> io::Result<()> {
-    if line.starts_with('#') {
-        writeln!(writer, "{line}")
-    } else if let Some(text) = line.strip_prefix("says ") {
+    if let Some(text) = row.strip_prefix("says ") {
         write_says(alloc, text, writer)
-    } else if let Some(words) = line.strip_prefix("scope ") {
+    } else if let Some(words) = row.strip_prefix("scope ") {
         write_has_scope(alloc, words, writer)
-    } else if let Some(words) = line.strip_prefix("check ") {
+    } else if let Some(words) = row.strip_prefix("check ") {
         write_checked(alloc, server, words, writer)
-    } else if let Some(words) = line.strip_prefix("introspect ") {
+    } else if let Some(words) = row.strip_prefix("introspect ") {
         write_introspected(alloc, server, words, writer)
     } else {
         writeln!(writer, "?")
     }
 }
 
-fn set_keys<W: Write>(
-    alloc: Global,
-    server: &mut Server,
-    text: &str,
-    writer: &mut W,
-) -> io::Result<()> {
-    match read_set(alloc, text) {
-        Some(keys) => {
-            server.keys = keys;
-            Ok(())
+/// What a resource server expects of access tokens, and the keys of the issuer.
+pub struct ResourceServer {
+    keys: JsonWebKeySet,
+    expected: ExpectedAccessToken,
+}
+
+impl Drop for ResourceServer {
+    fn drop(self) {
+        let ResourceServer {
+            keys: _,
+            expected: _,
+        } = self;
+    }
+}
+
+impl ResourceServer {
+    /// A server without a key.
+    pub fn new(alloc: Global) -> io::Result<Option<ResourceServer>> {
+        let Some(expected) = read_expected(alloc, "- - RS256 0")? else {
+            return Ok(None);
+        };
+        let Some(keys) = key_set_of(alloc, "{\"keys\":[]}") else {
+            return Ok(None);
+        };
+        Ok(Some(ResourceServer { keys, expected }))
+    }
+
+    /// Does what a row says.
+    pub fn run_row<W: Write>(
+        &mut self,
+        alloc: Global,
+        row: &str,
+        writer: &mut W,
+    ) -> io::Result<()> {
+        if let Some(text) = row.strip_prefix("set ") {
+            set(&mut self.keys, key_set_of(alloc, text), writer)
+        } else if let Some(words) = row.strip_prefix("expect ") {
+            set(&mut self.expected, read_expected(alloc, words)?, writer)
+        } else {
+            write_result(alloc, self, row, writer)
         }
-        None => writeln!(writer, "?"),
-    }
-}
-
-fn set_expected<W: Write>(
-    alloc: Global,
-    server: &mut Server,
-    words: &str,
-    writer: &mut W,
-) -> io::Result<()> {
-    match read_expected(alloc, words)? {
-        Some(expected) => {
-            server.expected = expected;
-            Ok(())
-        }
-        None => writeln!(writer, "?"),
-    }
-}
-
-fn run_line<W: Write>(
-    alloc: Global,
-    server: &mut Server,
-    line: &str,
-    writer: &mut W,
-) -> io::Result<()> {
-    if let Some(text) = line.strip_prefix("set ") {
-        set_keys(alloc, server, text, writer)
-    } else if let Some(words) = line.strip_prefix("expect ") {
-        set_expected(alloc, server, words, writer)
-    } else {
-        write_line(alloc, server, line, writer)
-    }
-}
-
-// Does what the lines of standard input say.
-fn run_lines(rt: &HostRuntime, server: &mut Server) -> io::Result<()> {
-    let mut writer = io::writer(rt);
-    for line in BufReader::new(rt.alloc(), rt.reader())?.lines(rt.alloc()) {
-        let line = line?;
-        run_line(rt.alloc(), server, &line, &mut writer)?;
-    }
-    Ok(())
-}
-
-fn new_server(alloc: Global) -> io::Result<Option<Server>> {
-    let Some(expected) = read_expected(alloc, "- - RS256 0")? else {
-        return Ok(None);
-    };
-    let Some(keys) = read_set(alloc, "{\"keys\":[]}") else {
-        return Ok(None);
-    };
-    Ok(Some(Server { keys, expected }))
-}
-
-fn main(rt: HostRuntime) -> io::Result<()> {
-    match new_server(rt.alloc())? {
-        Some(mut server) => run_lines(&rt, &mut server),
-        None => rt.println("?"),
     }
 }

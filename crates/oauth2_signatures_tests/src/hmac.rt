@@ -1,16 +1,14 @@
-//! Makes and checks the codes that standard input lists, and prints the result of each line.
+//! The rows `hmac`.
 //!
-//! A line `key ALGORITHM OCTETS` takes a key, where ALGORITHM is a name of RFC 7518, 3.1, such as
-//! `HS256`. A line `sign MESSAGE` prints the code of a message with this key, and a line
-//! `verify MESSAGE SIGNATURE` checks one. Octets are written in hex, and no octets as `-`. A line
-//! that begins with `#` is a heading, and is printed as it is. The file `stdout` has the expected
-//! output for the file `stdin`.
+//! A row `key ALGORITHM OCTETS` takes a key, where ALGORITHM is a name of RFC 7518, 3.1, such as
+//! `HS256`. A row `sign MESSAGE` prints the code of a message with this key, and a row
+//! `verify MESSAGE SIGNATURE` checks one. A row `show` prints the key, its hash function and a code.
+//! Octets are written in hex, and no octets as `-`.
 
-#![tactic(auto)]
-
+use crate::rows::octets_of;
 use hmac_signatures::{HashFunction, HmacKey};
 use std::alloc::Global;
-use std::io::{self, BufRead, BufReader, Write};
+use std::io::{self, Write};
 
 fn hash_of(algorithm: &str) -> Option<HashFunction> {
     match algorithm {
@@ -21,15 +19,7 @@ fn hash_of(algorithm: &str) -> Option<HashFunction> {
     }
 }
 
-// The octets that a word is the hex of; none if it is not hex.
-fn octets_of(alloc: Global, word: Option<&str>) -> Vec<u8> {
-    match hex::decode(alloc, word.unwrap_or("-")) {
-        Ok(octets) => octets,
-        Err(_) => Vec::new(alloc),
-    }
-}
-
-// Prints the result of a line `sign`, `verify` or `show` with the key.
+// Prints the result of a row `sign`, `verify` or `show` with the key.
 fn write_answer<W: Write>(
     key: &HmacKey<'_>,
     name: &str,
@@ -62,30 +52,48 @@ fn take_key<W: Write>(
     Ok(Some((hash, octets)))
 }
 
-fn main(rt: HostRuntime) -> io::Result<()> {
-    let alloc = rt.alloc();
-    let mut writer = io::writer(&rt);
-    let mut taken = None;
-    for line in BufReader::new(alloc, rt.reader())?.lines(alloc) {
-        let line = line?;
-        let mut words = line.split(' ');
+/// Makes and checks codes with the last key.
+pub struct HmacCodes {
+    // The hash function and the octets of the key.
+    key: Option<(HashFunction, Vec<u8>)>,
+}
+
+impl Drop for HmacCodes {
+    fn drop(self) {
+        let HmacCodes { key: _ } = self;
+    }
+}
+
+impl HmacCodes {
+    /// No key yet.
+    pub fn new() -> HmacCodes {
+        HmacCodes { key: None }
+    }
+
+    /// Takes a key, or prints a code or the result of a check.
+    pub fn run_row<W: Write>(
+        &mut self,
+        alloc: Global,
+        row: &str,
+        writer: &mut W,
+    ) -> io::Result<()> {
+        let mut words = row.split(' ');
         let name = words.next().unwrap_or("");
         let first = words.next();
         let second = octets_of(alloc, words.next());
-        if name.starts_with('#') {
-            writeln!(writer, "{line}")?;
-        } else if name == "key"
+        if name == "key"
             && let Some(hash) = hash_of(first.unwrap_or(""))
         {
-            taken = take_key(hash, second, &mut writer)?;
-        } else if let Some((hash, octets)) = &taken
+            self.key = take_key(hash, second, writer)?;
+            return Ok(());
+        }
+        if let Some((hash, octets)) = &self.key
             && let Ok(key) = HmacKey::new(*hash, octets.as_slice())
         {
             let message = octets_of(alloc, first);
-            write_answer(&key, name, &message, &second, alloc, &mut writer)?;
+            write_answer(&key, name, &message, &second, alloc, writer)
         } else {
-            writeln!(writer, "?")?;
+            writeln!(writer, "?")
         }
     }
-    Ok(())
 }

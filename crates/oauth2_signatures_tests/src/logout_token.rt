@@ -1,19 +1,16 @@
-//! Reads the logout tokens and keys that standard input lists, and checks the tokens.
+//! The rows `logout_token`.
 //!
-//! A line `set JSON` reads the keys of the issuer, and a line `secret TEXT` sets the client's secret.
-//! A line `expect ISSUER CLIENT ALGORITHM TYPES LEEWAY AUDIENCES` sets what a client expects: with
-//! an ALGORITHM such as `HS256` its secret checks signatures, TYPES is `only` or `plain`, the leeway
-//! is in seconds, and AUDIENCES are the other audiences that it trusts, if any. A line `says TOKEN`
-//! prints what a token has. A line `check SECOND TOKEN` checks a token at that second since 1970,
-//! and `verified SECOND TOKEN` prints what comes of it. A line `of ISSUER SUBJECT SESSION TOKEN`
-//! prints whether a token ends that session, where `-` is for a session without an identifier. An
-//! ISSUER of `expect` with `{tenant}` in it is one for each tenant. A line that begins with `#` is a
-//! heading, and is printed as it is. The file `stdout` has the expected output for the file `stdin`.
+//! A row `set JSON` reads the keys of the issuer, and a row `secret TEXT` sets the client's secret.
+//! A row `expect ISSUER CLIENT ALGORITHM TYPES LEEWAY AUDIENCES` sets what a client expects: with an
+//! ALGORITHM such as `HS256` its secret checks signatures, TYPES is `only` or `plain`, the leeway is
+//! in seconds, and AUDIENCES are the other audiences that it trusts, if any. An ISSUER with
+//! `{tenant}` in it is one for each tenant. A row `says TOKEN` prints what a logout token has. A row
+//! `check SECOND TOKEN` checks a token at that second since 1970, and `verified SECOND TOKEN` prints
+//! what comes of it. A row `of ISSUER SUBJECT SESSION TOKEN` prints whether a token ends that
+//! session, where `-` is for a session without an identifier.
 
-#![tactic(auto)]
-
+use crate::rows::{key_set_of, moment_and_token, secret_algorithm_of, set};
 use jiff::Timestamp;
-use oauth2_json::FromJson;
 use oauth2_keys::{JsonWebKeySet, SecretAlgorithm, SignatureAlgorithm, SignatureCheck};
 use oauth2_openid::IssuerRule;
 use oauth2_signed_tokens::{
@@ -22,7 +19,7 @@ use oauth2_signed_tokens::{
 };
 use oauth2_types::{ClientId, ClientSecret};
 use std::alloc::Global;
-use std::io::{self, BufRead, BufReader, Write};
+use std::io::{self, Write};
 use std::time::Duration;
 
 // The algorithm that the client registered.
@@ -32,7 +29,7 @@ enum Registered {
     BySecret(SecretAlgorithm),
 }
 
-// What the client expects, by a line `expect`.
+// What the client expects, by a row `expect`.
 struct Expectation {
     registered: Registered,
     token: ExpectedLogoutToken,
@@ -47,36 +44,6 @@ impl Drop for Expectation {
     }
 }
 
-// What the lines so far have set.
-struct Client {
-    keys: JsonWebKeySet,
-    secret: ClientSecret,
-    expected: Expectation,
-}
-
-impl Drop for Client {
-    fn drop(self) {
-        let Client {
-            keys: _,
-            secret: _,
-            expected: _,
-        } = self;
-    }
-}
-
-impl Client {
-    fn signature_check(&self) -> SignatureCheck<'_> {
-        match self.expected.registered {
-            Registered::ByKeys(algorithm) => SignatureCheck::Keys(&self.keys, algorithm),
-            Registered::BySecret(algorithm) => SignatureCheck::Secret(&self.secret, algorithm),
-        }
-    }
-}
-
-fn read_set(alloc: Global, text: &str) -> Option<JsonWebKeySet> {
-    JsonWebKeySet::from_body(alloc, text.as_bytes()).ok()
-}
-
 fn read_types(word: &str) -> Option<TypeRule> {
     match word {
         "only" => Some(TypeRule::OnlyLogout),
@@ -86,11 +53,9 @@ fn read_types(word: &str) -> Option<TypeRule> {
 }
 
 fn read_algorithm(name: &str) -> Option<Registered> {
-    match name {
-        "HS256" => Some(Registered::BySecret(SecretAlgorithm::Hs256)),
-        "HS384" => Some(Registered::BySecret(SecretAlgorithm::Hs384)),
-        "HS512" => Some(Registered::BySecret(SecretAlgorithm::Hs512)),
-        _ => Some(Registered::ByKeys(SignatureAlgorithm::from_name(name)?)),
+    match secret_algorithm_of(name) {
+        Some(algorithm) => Some(Registered::BySecret(algorithm)),
+        None => Some(Registered::ByKeys(SignatureAlgorithm::from_name(name)?)),
     }
 }
 
@@ -157,8 +122,8 @@ fn expected_by(
     })
 }
 
-fn read_expected(alloc: Global, line: &str) -> io::Result<Option<Expectation>> {
-    let mut words = line.splitn(6, ' ');
+fn read_expected(alloc: Global, words: &str) -> io::Result<Option<Expectation>> {
+    let mut words = words.splitn(6, ' ');
     let issuer = words.next().unwrap_or("");
     let client = words.next().unwrap_or("");
     let algorithm = words.next().unwrap_or("");
@@ -169,10 +134,6 @@ fn read_expected(alloc: Global, line: &str) -> io::Result<Option<Expectation>> {
         Some(rules) => Ok(Some(expected_by(alloc, rules, issuer, client, audiences)?)),
         None => Ok(None),
     }
-}
-
-fn read_moment(text: &str) -> Option<Timestamp> {
-    Timestamp::from_second(text.parse::<i64>().ok()?).ok()
 }
 
 fn write_said<W: Write>(token: &LogoutToken, writer: &mut W) -> io::Result<()> {
@@ -224,8 +185,8 @@ fn write_says<W: Write>(alloc: Global, text: &str, writer: &mut W) -> io::Result
     }
 }
 
-fn write_is_of<W: Write>(alloc: Global, line: &str, writer: &mut W) -> io::Result<()> {
-    let (issuer, words) = line.split_once(' ').unwrap_or(("", ""));
+fn write_is_of<W: Write>(alloc: Global, words: &str, writer: &mut W) -> io::Result<()> {
+    let (issuer, words) = words.split_once(' ').unwrap_or(("", ""));
     let (subject, words) = words.split_once(' ').unwrap_or(("", ""));
     let (session, text) = words.split_once(' ').unwrap_or(("", ""));
     let session = ClientSession {
@@ -242,11 +203,10 @@ fn write_is_of<W: Write>(alloc: Global, line: &str, writer: &mut W) -> io::Resul
 fn write_checked<W: Write>(
     alloc: Global,
     client: &Client,
-    line: &str,
+    words: &str,
     writer: &mut W,
 ) -> io::Result<()> {
-    let (second, text) = line.split_once(' ').unwrap_or(("", ""));
-    let Some(now) = read_moment(second) else {
+    let Some((now, text)) = moment_and_token(words) else {
         return writeln!(writer, "?");
     };
     match LogoutToken::from_text(alloc, text) {
@@ -292,11 +252,10 @@ fn write_judged<W: Write>(
 fn write_verified<W: Write>(
     alloc: Global,
     client: &Client,
-    line: &str,
+    words: &str,
     writer: &mut W,
 ) -> io::Result<()> {
-    let (second, text) = line.split_once(' ').unwrap_or(("", ""));
-    let Some(now) = read_moment(second) else {
+    let Some((now, text)) = moment_and_token(words) else {
         return writeln!(writer, "?");
     };
     match LogoutToken::from_text(alloc, text) {
@@ -305,107 +264,82 @@ fn write_verified<W: Write>(
     }
 }
 
-fn write_line<W: Write>(
+fn write_result<W: Write>(
     alloc: Global,
     client: &Client,
-    line: &str,
+    row: &str,
     writer: &mut W,
 ) -> io::Result<()> {
-    if line.starts_with('#') {
-        writeln!(writer, "{line}")
-    } else if let Some(text) = line.strip_prefix("says ") {
+    if let Some(text) = row.strip_prefix("says ") {
         write_says(alloc, text, writer)
-    } else if let Some(words) = line.strip_prefix("of ") {
+    } else if let Some(words) = row.strip_prefix("of ") {
         write_is_of(alloc, words, writer)
-    } else if let Some(words) = line.strip_prefix("check ") {
+    } else if let Some(words) = row.strip_prefix("check ") {
         write_checked(alloc, client, words, writer)
-    } else if let Some(words) = line.strip_prefix("verified ") {
+    } else if let Some(words) = row.strip_prefix("verified ") {
         write_verified(alloc, client, words, writer)
     } else {
         writeln!(writer, "?")
     }
 }
 
-fn set_keys<W: Write>(
-    alloc: Global,
-    client: &mut Client,
-    text: &str,
-    writer: &mut W,
-) -> io::Result<()> {
-    match read_set(alloc, text) {
-        Some(keys) => {
-            client.keys = keys;
+/// What a client expects of logout tokens, the keys of the issuer, and the client's secret.
+pub struct Client {
+    keys: JsonWebKeySet,
+    secret: ClientSecret,
+    expected: Expectation,
+}
+
+impl Drop for Client {
+    fn drop(self) {
+        let Client {
+            keys: _,
+            secret: _,
+            expected: _,
+        } = self;
+    }
+}
+
+impl Client {
+    /// A client without a key, with an empty secret.
+    pub fn new(alloc: Global) -> io::Result<Option<Client>> {
+        let Some(expected) = read_expected(alloc, "- - RS256 plain 0")? else {
+            return Ok(None);
+        };
+        let Some(keys) = key_set_of(alloc, "{\"keys\":[]}") else {
+            return Ok(None);
+        };
+        let secret = ClientSecret::new(String::new(alloc));
+        Ok(Some(Client {
+            keys,
+            secret,
+            expected,
+        }))
+    }
+
+    /// Does what a row says.
+    pub fn run_row<W: Write>(
+        &mut self,
+        alloc: Global,
+        row: &str,
+        writer: &mut W,
+    ) -> io::Result<()> {
+        if let Some(text) = row.strip_prefix("set ") {
+            set(&mut self.keys, key_set_of(alloc, text), writer)
+        } else if let Some(text) = row.strip_prefix("secret ") {
+            self.secret = ClientSecret::new(String::from_str(alloc, text)?);
             Ok(())
+        } else if let Some(words) = row.strip_prefix("expect ") {
+            set(&mut self.expected, read_expected(alloc, words)?, writer)
+        } else {
+            write_result(alloc, self, row, writer)
         }
-        None => writeln!(writer, "?"),
     }
-}
 
-fn set_expected<W: Write>(
-    alloc: Global,
-    client: &mut Client,
-    words: &str,
-    writer: &mut W,
-) -> io::Result<()> {
-    match read_expected(alloc, words)? {
-        Some(expected) => {
-            client.expected = expected;
-            Ok(())
+    fn signature_check(&self) -> SignatureCheck<'_> {
+        match self.expected.registered {
+            Registered::ByKeys(algorithm) => SignatureCheck::Keys(&self.keys, algorithm),
+            Registered::BySecret(algorithm) => SignatureCheck::Secret(&self.secret, algorithm),
         }
-        None => writeln!(writer, "?"),
-    }
-}
-
-fn set_secret(alloc: Global, client: &mut Client, text: &str) -> io::Result<()> {
-    client.secret = ClientSecret::new(String::from_str(alloc, text)?);
-    Ok(())
-}
-
-fn run_line<W: Write>(
-    alloc: Global,
-    client: &mut Client,
-    line: &str,
-    writer: &mut W,
-) -> io::Result<()> {
-    if let Some(text) = line.strip_prefix("set ") {
-        set_keys(alloc, client, text, writer)
-    } else if let Some(text) = line.strip_prefix("secret ") {
-        set_secret(alloc, client, text)
-    } else if let Some(words) = line.strip_prefix("expect ") {
-        set_expected(alloc, client, words, writer)
-    } else {
-        write_line(alloc, client, line, writer)
-    }
-}
-
-// Does what the lines of standard input say.
-fn run_lines(rt: &HostRuntime, client: &mut Client) -> io::Result<()> {
-    let mut writer = io::writer(rt);
-    for line in BufReader::new(rt.alloc(), rt.reader())?.lines(rt.alloc()) {
-        let line = line?;
-        run_line(rt.alloc(), client, &line, &mut writer)?;
-    }
-    Ok(())
-}
-
-fn new_client(alloc: Global) -> io::Result<Option<Client>> {
-    let Some(expected) = read_expected(alloc, "- - RS256 plain 0")? else {
-        return Ok(None);
-    };
-    let Some(keys) = read_set(alloc, "{\"keys\":[]}") else {
-        return Ok(None);
-    };
-    let secret = ClientSecret::new(String::new(alloc));
-    Ok(Some(Client {
-        keys,
-        secret,
-        expected,
-    }))
-}
-
-fn main(rt: HostRuntime) -> io::Result<()> {
-    match new_client(rt.alloc())? {
-        Some(mut client) => run_lines(&rt, &mut client),
-        None => rt.println("?"),
     }
 }

@@ -1,32 +1,20 @@
-//! Reads the key sets that standard input lists, and checks tokens and signatures by them.
+//! The rows `keys`.
 //!
-//! A line `set JSON` reads a set and prints a line for each key. A line `verify ALGORITHM TOKEN`
-//! checks the signature of an ID token. A line `check ALGORITHM KEY-ID MESSAGE SIGNATURE` checks a
-//! signature in base64url by the key that is chosen; a KEY-ID of `-` means that there is none. A
-//! line `secret ALGORITHM SECRET TOKEN` checks the signature of an ID token by a client's secret,
-//! and a line `thumbprint JSON` prints the thumbprint of a key. A line that begins with `#` is a
-//! heading, and is printed as it is. The file `stdout` has what has to be printed for the file
-//! `stdin`.
+//! A row `set JSON` reads a key set and prints a line for each key. A row `verify ALGORITHM TOKEN`
+//! checks the signature of an ID token. A row `check ALGORITHM KEY-ID MESSAGE SIGNATURE` checks a
+//! signature in base64url by the key that is chosen; a KEY-ID of `-` means that there is none. A row
+//! `secret ALGORITHM SECRET TOKEN` checks the signature of an ID token by a client's secret, and a
+//! row `thumbprint JSON` prints the thumbprint of a key.
 
-#![tactic(auto)]
-
+use crate::rows::secret_algorithm_of;
 use base64::engine::general_purpose::URL_SAFE_NO_PAD;
 use oauth2_json::FromJson;
-use oauth2_keys::{JsonWebKeySet, ListedKey, SecretAlgorithm, SignatureAlgorithm, thumbprint};
+use oauth2_keys::{JsonWebKeySet, ListedKey, SignatureAlgorithm, thumbprint};
 use oauth2_openid::IdToken;
 use oauth2_types::ClientSecret;
 use serde_json::Value;
 use std::alloc::Global;
-use std::io::{self, BufRead, BufReader, Write};
-
-fn secret_algorithm_of(name: &str) -> Option<SecretAlgorithm> {
-    match name {
-        "HS256" => Some(SecretAlgorithm::Hs256),
-        "HS384" => Some(SecretAlgorithm::Hs384),
-        "HS512" => Some(SecretAlgorithm::Hs512),
-        _ => None,
-    }
-}
+use std::io::{self, Write};
 
 fn write_key<W: Write>(key: &ListedKey, writer: &mut W) -> io::Result<()> {
     match key {
@@ -96,13 +84,13 @@ fn write_checked<W: Write>(
     }
 }
 
-fn write_line<W: Write>(
+fn write_signed<W: Write>(
     alloc: Global,
     set: &JsonWebKeySet,
-    line: &str,
+    row: &str,
     writer: &mut W,
 ) -> io::Result<()> {
-    let mut words = line.split(' ');
+    let mut words = row.split(' ');
     let name = words.next().unwrap_or("");
     let Some(algorithm) = SignatureAlgorithm::from_name(words.next().unwrap_or("")) else {
         return writeln!(writer, "?");
@@ -117,8 +105,8 @@ fn write_line<W: Write>(
     }
 }
 
-fn write_secret_verified<W: Write>(alloc: Global, line: &str, writer: &mut W) -> io::Result<()> {
-    let mut words = line.split(' ');
+fn write_secret_verified<W: Write>(alloc: Global, words: &str, writer: &mut W) -> io::Result<()> {
+    let mut words = words.split(' ');
     let Some(algorithm) = secret_algorithm_of(words.next().unwrap_or("")) else {
         return writeln!(writer, "?");
     };
@@ -139,25 +127,41 @@ fn write_thumbprint<W: Write>(alloc: Global, text: &str, writer: &mut W) -> io::
     }
 }
 
-fn main(rt: HostRuntime) -> io::Result<()> {
-    let alloc = rt.alloc();
-    let mut writer = io::writer(&rt);
-    let mut taken = None;
-    for line in BufReader::new(alloc, rt.reader())?.lines(alloc) {
-        let line = line?;
-        if line.starts_with('#') {
-            writeln!(writer, "{line}")?;
-        } else if let Some(text) = line.strip_prefix("set ") {
-            taken = read_set(alloc, text, &mut writer)?;
-        } else if let Some(text) = line.strip_prefix("thumbprint ") {
-            write_thumbprint(alloc, text, &mut writer)?;
-        } else if let Some(words) = line.strip_prefix("secret ") {
-            write_secret_verified(alloc, words, &mut writer)?;
-        } else if let Some(set) = &taken {
-            write_line(alloc, set, &line, &mut writer)?;
+/// Reads key sets, and checks signatures by the last one.
+pub struct KeySets {
+    set: Option<JsonWebKeySet>,
+}
+
+impl Drop for KeySets {
+    fn drop(self) {
+        let KeySets { set: _ } = self;
+    }
+}
+
+impl KeySets {
+    /// No key set yet.
+    pub fn new() -> KeySets {
+        KeySets { set: None }
+    }
+
+    /// Does what a row says.
+    pub fn run_row<W: Write>(
+        &mut self,
+        alloc: Global,
+        row: &str,
+        writer: &mut W,
+    ) -> io::Result<()> {
+        if let Some(text) = row.strip_prefix("set ") {
+            self.set = read_set(alloc, text, writer)?;
+            Ok(())
+        } else if let Some(text) = row.strip_prefix("thumbprint ") {
+            write_thumbprint(alloc, text, writer)
+        } else if let Some(words) = row.strip_prefix("secret ") {
+            write_secret_verified(alloc, words, writer)
+        } else if let Some(set) = &self.set {
+            write_signed(alloc, set, row, writer)
         } else {
-            writeln!(writer, "?")?;
+            writeln!(writer, "?")
         }
     }
-    Ok(())
 }
