@@ -1,5 +1,5 @@
 """A model of a fleet of renewals that share one token, for tools/compare-shared-tokens. It was written from two pages alone: README.md of
-oauth2_shared_token, and the format of the runs, which src/main.rt of oauth2_shared_token_tests has.
+oauth2_shared_token, and the format of the runs, which src/fleets.rt of oauth2_shared_tests has.
 As a script it reads runs from standard input, one a line, and prints their outputs, one a line."""
 import re
 import sys

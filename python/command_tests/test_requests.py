@@ -102,7 +102,7 @@ class Program(unittest.TestCase):
                 self.assertEqual(self.found(True, None, name=name), (sys.executable, []))
 
     def test_one_that_is_not_proved_is_told_once_a_checkout(self):
-        for name, prove in (program.NAME, 'tools/prove'), (program.KEEPER, 'tools/prove oauth2_shared_keeper_program'):
+        for name, prove in (program.NAME, 'tools/prove'), (program.KEEPER, 'tools/prove oauth2_shared_tests'):
             path, said = self.found(False, lambda note, *_: note() or '/p', name=name)
             self.assertEqual((path, len(said)), ('/p', 1))
             self.assertIn('not proved, %s does that' % prove, said[0])

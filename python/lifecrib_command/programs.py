@@ -16,7 +16,7 @@ from lifecrib._library import Library
 from . import endings
 from .endings import BAD_SETTING, Stop
 
-NAME, KEEPER = 'oauth2_run', 'oauth2_shared_keeper_program'
+NAME, KEEPER = 'oauth2_run', 'oauth2_shared_tests'
 CALLED = {NAME: 'program', KEEPER: 'keeper'}  # what a line calls each
 # The folder that has the programs of a package, with the record of each proved one.
 PACKAGE = os.path.dirname(os.path.abspath(__file__))

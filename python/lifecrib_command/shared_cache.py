@@ -126,7 +126,7 @@ class Renewing(shared_keeper.Keeper):
         except OSError as error:
             found, why = [], str(error)
         if not found or found[0] == '?':
-            raise Stop('%s is not the keeper of oauth2_shared_keeper_program, it seems: %s' % (self.path, why))
+            raise Stop('%s is not the keeper of oauth2_shared_tests, it seems: %s' % (self.path, why))
         return found
 
     def left(self) -> float:

@@ -1,4 +1,4 @@
-"""The proved keeper of a token that many processes share, the program oauth2_shared_keeper_program, and what it asks:
+"""The proved keeper of a token that many processes share, the program oauth2_shared_tests, and what it asks:
 for the tools beside this file."""
 from __future__ import annotations
 
