@@ -2,22 +2,13 @@
 //! reply that the standard does not name.
 
 use crate::application::canned_id_token;
-use crate::support::{assert_equal, text};
-use oauth2::HttpResponse;
-use oauth2::http::Response;
+use crate::support::{assert_equal, reply, text};
 use std::process::Abort;
-
-fn reply(rt: &(impl Abort + AllocGlobal), body: &str) -> HttpResponse {
-    Response::new(
-        rt.alloc(),
-        body.as_bytes().to_vec(rt.alloc()).expect(rt, "a body"),
-    )
-}
 
 // Asserts that the application returns this `id_token` for a reply with this body.
 fn assert_id_token(rt: &(impl Abort + AllocGlobal), body: &str, wanted: Option<&str>) {
     let url = text(rt, "https://example.com/token");
-    let answer = canned_id_token(rt.alloc(), url, text(rt, "ccc"), reply(rt, body));
+    let answer = canned_id_token(rt.alloc(), url, text(rt, "ccc"), reply(rt, 200, body));
     let id_token = answer.expect(rt, "an answer");
     assert_equal(rt, id_token.as_deref(), wanted);
 }

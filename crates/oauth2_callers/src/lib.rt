@@ -1,6 +1,6 @@
-//! Functions that call the client with concrete types and have their own contracts, and tests that
-//! call them. Everything here is compiled only with the tests: a library would also have to export
-//! all that its public names mention.
+//! Functions that call the libraries as a user does and have their own contracts, and tests that call
+//! them. The functions are compiled only with the tests: a library would also have to export all that
+//! its public names mention.
 
 #![tactic(auto)]
 
@@ -19,15 +19,22 @@ mod example;
 #[cfg(test)]
 mod exchange;
 #[cfg(test)]
+mod http1;
+#[cfg(test)]
+mod http1_connections;
+#[cfg(test)]
 mod login_tests;
 #[cfg(test)]
 mod openid;
 #[cfg(test)]
 mod own_extra_fields;
+mod own_types;
 #[cfg(test)]
 mod refresh;
 #[cfg(test)]
 mod revocation;
+#[cfg(test)]
+mod rfc_client;
 #[cfg(test)]
 mod support;
 #[cfg(test)]

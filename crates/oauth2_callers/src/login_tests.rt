@@ -6,15 +6,14 @@ ghost use Rattle.oauth2_types.specs.Pkce.{HasValidLength};
 use crate::application::{CannedClient, CannedError};
 use crate::client::CodeClient;
 use crate::openid::{finish_login, provider, start_login};
-use crate::support::{assert_equal, assert_text, text};
+use crate::support::{assert_equal, assert_text, reply, text};
 use crate::web_login::{begin, end};
 use jiff::Timestamp;
 use oauth2::basic::{BasicErrorResponse, BasicTokenResponse};
-use oauth2::http::Response;
 use oauth2::url::Url;
 use oauth2::{
     AuthUrl, AuthorizationCode, Client, ClientId, ClientSecret, CodeFlow, CodeFlowError, CsrfToken,
-    HttpResponse, PkceCodeVerifier, RedirectUrl, TokenResponse, TokenUrl, code_flow,
+    PkceCodeVerifier, RedirectUrl, TokenResponse, TokenUrl, code_flow,
 };
 use oauth2_openid_login::{
     OpenIdClient, OpenIdLogin, OpenIdLoginEnd, OpenIdLoginError, OpenIdLoginRefusal,
@@ -125,13 +124,6 @@ fn open_id_client(rt: &(impl Abort + AllocGlobal)) -> OpenIdClient {
         .set_redirect_uri(redirect.expect(rt, "a URL"))
 }
 
-fn reply(rt: &(impl Abort + AllocGlobal), body: &str) -> HttpResponse {
-    Response::new(
-        rt.alloc(),
-        body.as_bytes().to_vec(rt.alloc()).expect(rt, "a body"),
-    )
-}
-
 // Starts a login of this client, and asserts its URL.
 fn started(rt: &(impl Abort + AllocGlobal), client: &OpenIdClient) -> OpenIdLogin {
     let mut rng = Repeated(0);
@@ -178,7 +170,7 @@ fn ends(rt: &(impl Abort + AllocGlobal), state: &str, body: &str) -> Ended {
     finish_login(
         rt.alloc(),
         &client,
-        &mut CannedClient::new(reply(rt, body)),
+        &mut CannedClient::new(reply(rt, 200, body)),
         login,
         &redirect,
         &provider(ISSUER),
@@ -262,7 +254,7 @@ fn token_after(
     let token = end(
         rt.alloc(),
         client,
-        &mut CannedClient::new(reply(rt, body)),
+        &mut CannedClient::new(reply(rt, 200, body)),
         session,
         &redirect,
     );

@@ -1,5 +1,8 @@
 //! Functions that several test files share.
 
+use oauth2::HttpResponse;
+use oauth2::http::response::Parts;
+use oauth2::http::{Response, StatusCode};
 use std::fmt::Debug;
 use std::process::Abort;
 
@@ -16,4 +19,12 @@ pub fn assert_equal<T: PartialEq + Debug + Drop>(rt: &impl Abort, found: T, want
 /// Asserts that the two texts are equal.
 pub fn assert_text(rt: &impl Abort, found: &str, wanted: &str) {
     assert_eq!(rt; found, wanted);
+}
+
+/// A reply with this status and body.
+pub fn reply(rt: &(impl Abort + AllocGlobal), status: u16, body: &str) -> HttpResponse {
+    let mut head = Parts::new(rt.alloc());
+    head.status = StatusCode::from_u16(status).expect(rt, "a status");
+    let body = body.as_bytes().to_vec(rt.alloc()).expect(rt, "a body");
+    Response::from_parts(head, body)
 }

@@ -1,2 +1,0 @@
-pub mod EqualRequests
-pub mod ReadBack

@@ -1,5 +1,0 @@
-pub mod Colors
-pub mod ColorErrors
-pub mod CustomError
-pub mod Fields
-pub mod Asked
