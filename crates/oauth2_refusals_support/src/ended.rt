@@ -20,6 +20,8 @@ pub enum Want {
     Row,
     AllocError,
     CodeFlowError,
+    IdTokenReadError,
+    OpenIdLoginError { sent: bool },
     ParseError,
     ReadError,
     RedirectError,
