@@ -52,14 +52,14 @@ def written(value):
 
 def ran_by(made):
     """What takes the place of a run of the program: the adapters of a module."""
-    def told(_, lines):
-        function, said = made.ADAPTERS[lines[0].partition(' ')[2]], []
-        for line in lines[1:]:
-            _, status, kinds, body = line.split(' ')
+    def told(_, rows):
+        function, said = made.ADAPTERS[rows[0].partition(' ')[2]], []
+        for row in rows[1:]:
+            _, status, kinds, body = row.split(' ')
             kinds = [] if kinds == '-' else [bytes.fromhex(it) for it in kinds.split(',')]
             status, kinds, body = function(int(status), kinds, bytes.fromhex(body))
             body = body if isinstance(body, bytes) else written(body).encode('utf-8', 'surrogatepass')
-            said.append(TOOL.line_of(status, kinds, body).partition(' ')[2])
+            said.append(TOOL.row_of(status, kinds, body).partition(' ')[2])
         return said
     return told
 
@@ -83,6 +83,10 @@ class Adapters(unittest.TestCase):
 
     def test_a_program_without_a_bug(self):
         self.assertEqual(self.compared(ran_by(TOOL), 300), (0, '300 replies, 0 differences'))
+
+    def test_each_line_begins_with_the_module(self):
+        """A program that prints what it gets."""
+        self.assertEqual(TOOL.told('cat', ['adapter a b', 'octets 200 - 7b7d']), ['adapters adapter a b', 'adapters octets 200 - 7b7d'])
 
     def test_a_program_that_ends(self):
         self.assertEqual(self.compared(lambda *_: [], 10)[0], 50)

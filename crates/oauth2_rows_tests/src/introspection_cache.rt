@@ -1,17 +1,52 @@
-//! A call of a cache, and what is printed of it.
+//! The rows `introspection_cache`.
+//!
+//! A row `cache MOST LONGEST` makes a cache for so many answers, none of which is used that is so
+//! many seconds old. A row `ask MOMENT TOKEN STATUS BODY` is a call at that second since 1970, with
+//! the reply to its request if it makes one. It prints the answer or the error, and how many requests
+//! the call made. A row `body MOMENT TOKEN` does the same without a reply, and prints the body of the
+//! request. A row `accept AUDIENCE ISSUER TYPE SCOPES` says what the server accepts and which scopes,
+//! between commas, a request needs; `-` for an audience, an issuer or scopes is none. A row
+//! `authorize MOMENT TOKEN STATUS BODY` prints what is decided then. A row `forget TOKEN` forgets a
+//! token, and a row `kept TOKEN` prints the answer that is kept, good or not. Both print then how
+//! many answers are kept.
 
-use crate::policy::Policy;
+mod policy;
+
+use crate::replies::reply_of;
+use anyhow::anyhow;
+use http_header::HeaderMap;
 use jiff::Timestamp;
 use oauth2::basic::BasicErrorResponse;
-use oauth2::http::response::Parts;
-use oauth2::http::{Response, StatusCode};
-use oauth2::{AccessToken, TokenIntrospectionResponse};
+use oauth2::{AccessToken, Client, ClientId, IntrospectionUrl, TokenIntrospectionResponse};
 use oauth2_introspection_cache::{
-    BasicIntrospectionCache, ConfirmedIntrospectionResponse, NotAuthorized,
+    BasicIntrospectionCache, ConfirmedIntrospectionResponse, NotAuthorized, ResourceServerClient,
 };
 use oauth2_tests_support::{NoReply, OneReply};
+use policy::Policy;
 use std::alloc::Global;
 use std::io::Write;
+use std::num::NonZeroUsize;
+use std::time::Duration;
+
+/// The client of a resource server.
+pub fn resource_server(alloc: Global) -> anyhow::Result<ResourceServerClient> {
+    let url = IntrospectionUrl::parse(alloc, "https://as.example/introspect")?;
+    Ok(Client::new(ClientId::from_str(alloc, "rs")?).set_introspection_url(url))
+}
+
+// A cache as a row describes it.
+fn made_cache<'a>(
+    alloc: Global,
+    client: &'a ResourceServerClient,
+    words: &str,
+) -> anyhow::Result<BasicIntrospectionCache<'a>> {
+    let mut words = words.split(' ');
+    let most = words.next().unwrap_or("").parse::<u32>()?;
+    let longest = words.next().unwrap_or("").parse::<u32>()?;
+    let most = NonZeroUsize::new(most as usize).unwrap_or(NonZeroUsize::MIN);
+    let longest = Duration::from_secs(u64::from(longest));
+    Ok(BasicIntrospectionCache::new(alloc, client, most, longest)?)
+}
 
 fn read_moment(text: &str) -> anyhow::Result<Timestamp> {
     Ok(Timestamp::from_second(text.parse::<i64>()?)?)
@@ -74,14 +109,15 @@ fn show_kept<W: Write>(
     Ok(())
 }
 
-fn made_client(alloc: Global, status: u16, body: &str) -> anyhow::Result<OneReply> {
-    let mut head = Parts::new(alloc);
-    head.status = StatusCode::from_u16(status)?;
+fn made_client(alloc: Global, status: &str, body: &str) -> anyhow::Result<OneReply> {
     let body = String::from_str(alloc, body)?;
-    Ok(OneReply::new(Response::from_parts(head, body.into_bytes())))
+    match reply_of(alloc, status, HeaderMap::new(alloc), body.into_bytes()) {
+        Some(reply) => Ok(OneReply::new(reply)),
+        None => Err(anyhow!("a row has no status for its reply")),
+    }
 }
 
-// The words of a line behind its first one; each is empty if it is missing.
+// The words of a row behind its first one; each is empty if it is missing.
 #[derive(Clone, Copy)]
 struct Words<'l> {
     first: &'l str,
@@ -97,9 +133,8 @@ fn run_ask<W: Write>(
     writer: &mut W,
 ) -> anyhow::Result<()> {
     let now = read_moment(words.first)?;
-    let status = words.status.parse::<u16>()?;
     let token = AccessToken::from_str(alloc, words.second)?;
-    let mut http_client = made_client(alloc, status, words.body)?;
+    let mut http_client = made_client(alloc, words.status, words.body)?;
     ask(alloc, cache, &token, now, &mut http_client, writer)
 }
 
@@ -111,10 +146,9 @@ fn run_authorize<W: Write>(
     writer: &mut W,
 ) -> anyhow::Result<()> {
     let now = read_moment(words.first)?;
-    let status = words.status.parse::<u16>()?;
     let token = AccessToken::from_str(alloc, words.second)?;
     let needed = policy.needed(alloc)?;
-    let mut http_client = made_client(alloc, status, words.body)?;
+    let mut http_client = made_client(alloc, words.status, words.body)?;
     let decision = cache.authorize(
         alloc,
         &token,
@@ -137,7 +171,7 @@ fn run_body<W: Write>(
 ) -> anyhow::Result<()> {
     let now = read_moment(words.first)?;
     let token = AccessToken::from_str(alloc, words.second)?;
-    let mut http_client = made_client(alloc, 500, "")?;
+    let mut http_client = made_client(alloc, "500", "")?;
     ask(alloc, cache, &token, now, &mut http_client, writer)?;
     write_body(alloc, &http_client, writer)
 }
@@ -171,15 +205,14 @@ fn say_unknown<W: Write>(writer: &mut W) -> anyhow::Result<()> {
     Ok(())
 }
 
-/// Runs a line.
-pub fn run_call<W: Write>(
+fn run_call<W: Write>(
     alloc: Global,
     cache: &mut BasicIntrospectionCache<'_>,
     policy: &Policy,
-    line: &str,
+    row: &str,
     writer: &mut W,
 ) -> anyhow::Result<()> {
-    let mut rest = line.splitn(5, ' ');
+    let mut rest = row.splitn(5, ' ');
     let command = rest.next().unwrap_or("");
     let words = Words {
         first: rest.next().unwrap_or(""),
@@ -194,5 +227,52 @@ pub fn run_call<W: Write>(
         "forget" => run_kept(alloc, cache, words.first, true, writer),
         "kept" => run_kept(alloc, cache, words.first, false, writer),
         _ => say_unknown(writer),
+    }
+}
+
+/// The cache of a run, and what its server accepts.
+pub struct CacheCalls<'a> {
+    client: &'a ResourceServerClient,
+    cache: BasicIntrospectionCache<'a>,
+    policy: Policy,
+}
+
+impl Drop for CacheCalls<'_> {
+    fn drop(self) {
+        let CacheCalls {
+            client: _,
+            cache: _,
+            policy: _,
+        } = self;
+    }
+}
+
+impl<'a> CacheCalls<'a> {
+    /// A cache for one answer, which is never used again.
+    pub fn new(alloc: Global, client: &'a ResourceServerClient) -> anyhow::Result<CacheCalls<'a>> {
+        let cache = made_cache(alloc, client, "1 0")?;
+        let policy = Policy::of_words(alloc, "- - bearer -")?;
+        Ok(CacheCalls {
+            client,
+            cache,
+            policy,
+        })
+    }
+
+    /// Does what a row says.
+    pub fn run_row<W: Write>(
+        &mut self,
+        alloc: Global,
+        row: &str,
+        writer: &mut W,
+    ) -> anyhow::Result<()> {
+        if let Some(sizes) = row.strip_prefix("cache ") {
+            self.cache = made_cache(alloc, self.client, sizes)?;
+        } else if let Some(accepted) = row.strip_prefix("accept ") {
+            self.policy = Policy::of_words(alloc, accepted)?;
+        } else {
+            run_call(alloc, &mut self.cache, &self.policy, row, writer)?;
+        }
+        Ok(())
     }
 }

@@ -1,6 +1,7 @@
-//! Tests of requests that are sent again.
+//! Requests that are sent again.
 
-use crate::replies::{add_field, reply_of, request_of};
+use crate::replies::{add_field, reply_of};
+use http::{Method, Request};
 use http_header::{HeaderMap, RETRY_AFTER};
 use oauth2_http1_connections::{RetryLimits, Retrying, TellsUnsent, WithSleep};
 use oauth2_wire::{AlwaysReady, HttpRequest, HttpResponse, SyncHttpClient};
@@ -57,11 +58,21 @@ fn answer_of(alloc: Global, words: &str) -> Result<HttpResponse, Fault> {
     })
 }
 
+// A request with this method and no body; `None` if the text is no method.
+fn request_of(alloc: Global, method: &str) -> Option<HttpRequest> {
+    let Ok(method) = Method::from_bytes(alloc, method.as_bytes()) else {
+        return None;
+    };
+    let (mut head, body) = Request::new(alloc, Vec::new(alloc)).into_parts();
+    head.method = method;
+    Some(Request::from_parts(head, body))
+}
+
 fn millis_of(word: &str) -> Duration {
     Duration::from_millis(word.parse::<u64>().unwrap_or(0))
 }
 
-// The limits of a line, and the text of its answers.
+// The limits of a row, and the text of its answers.
 fn limits_of(words: &str) -> Option<(RetryLimits, &str)> {
     let (most, rest) = words.split_once(' ')?;
     let (first, rest) = rest.split_once(' ')?;
@@ -112,11 +123,8 @@ fn write_repeated<W: Write>(
     write_answer(listed.calls, slept.as_slice(), answer, writer)
 }
 
-pub(crate) fn write_retried<W: Write>(
-    alloc: Global,
-    words: &str,
-    writer: &mut W,
-) -> io::Result<()> {
+/// Prints how often a request was sent, the waits, and the last answer.
+pub fn write_retried<W: Write>(alloc: Global, words: &str, writer: &mut W) -> io::Result<()> {
     let (method, rest) = words.split_once(' ').unwrap_or((words, ""));
     let Some(request) = request_of(alloc, method) else {
         return writeln!(writer, "?");

@@ -1,14 +1,10 @@
 //! An HTTP client that returns replies that were made before.
 
-use http::response::Parts;
-use http::{Response, StatusCode};
-use http_header::{CONTENT_TYPE, HeaderValue};
+use crate::replies::{add_field, reply_of};
+use http_header::{CONTENT_TYPE, HeaderMap};
+use oauth2_tests_support::NoReply;
 use oauth2_wire::{HttpRequest, HttpResponse, SyncHttpClient};
 use std::alloc::Global;
-
-/// No reply is left.
-#[derive(Clone, Copy, Debug)]
-pub struct NoReply;
 
 /// An HTTP client that returns each reply once, and counts its calls.
 pub struct Canned {
@@ -41,7 +37,7 @@ impl Canned {
 
     /// Sets the reply to the next request: a status, a Content-Type unless it is `-`, and a body.
     /// Returns whether it is one.
-    pub fn set_reply(&mut self, alloc: Global, status: u16, media_type: &str, body: &str) -> bool {
+    pub fn set_reply(&mut self, alloc: Global, status: &str, media_type: &str, body: &str) -> bool {
         match made_reply(alloc, status, media_type, body) {
             Some(reply) => {
                 self.reply = Some(reply);
@@ -52,28 +48,13 @@ impl Canned {
     }
 }
 
-// Sets the Content-Type. Returns whether it is one.
-fn set_media_type(alloc: Global, head: &mut Parts, media_type: &str) -> bool {
-    match HeaderValue::from_str(alloc, media_type) {
-        Ok(value) => head.headers.insert(CONTENT_TYPE, value).is_ok(),
-        Err(_) => false,
-    }
-}
-
-fn made_head(alloc: Global, status: u16, media_type: &str) -> Option<Parts> {
-    let status = StatusCode::from_u16(status).ok()?;
-    let mut head = Parts::new(alloc);
-    head.status = status;
-    if media_type != "-" && !set_media_type(alloc, &mut head, media_type) {
+fn made_reply(alloc: Global, status: &str, media_type: &str, body: &str) -> Option<HttpResponse> {
+    let mut headers = HeaderMap::new(alloc);
+    if media_type != "-" && !add_field(alloc, &mut headers, CONTENT_TYPE, media_type.as_bytes()) {
         return None;
     }
-    Some(head)
-}
-
-fn made_reply(alloc: Global, status: u16, media_type: &str, body: &str) -> Option<HttpResponse> {
     let body = String::from_str(alloc, body).ok()?;
-    let head = made_head(alloc, status, media_type)?;
-    Some(Response::from_parts(head, body.into_bytes()))
+    reply_of(alloc, status, headers, body.into_bytes())
 }
 
 impl SyncHttpClient for Canned {

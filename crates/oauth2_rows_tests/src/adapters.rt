@@ -1,34 +1,27 @@
-//! Tests of replies that an adapter changes.
+//! The rows `adapters`.
+//!
+//! A row `adapter NAME WORD..` sets the adapter and its arguments, and a row `type TEXT` sets a
+//! Content-Type. A row `text STATUS BODY` adapts a reply with that Content-Type, and prints the
+//! adapted reply. A row `octets STATUS TYPES BODY` does so for any octets. They are written in hex,
+//! with commas between the Content-Types, which are `-` if there is none. A row
+//! `retry METHOD MOST FIRST MOST-WAIT ANSWERS` sends a request again, at most MOST times after the
+//! first, with waits in milliseconds. The answers, with `|` between them, are `lost`, `unsent`, or
+//! a status with or without a Retry-After.
 
-use crate::replies::{add_field, reply_of, types_of};
+mod retries;
+
+use crate::replies::{add_field, reply_of};
 use http::Request;
 use http_header::{CONTENT_TYPE, HeaderMap};
 use oauth2_adapters::{
     AdaptedClient, CommasInScopes, ErrorsAtStatus200, FormBodies, NumbersAsTexts, OtherMediaTypes,
     ReplyAdapter,
 };
-use oauth2_wire::{AlwaysReady, HttpRequest, HttpResponse, SyncHttpClient};
+use oauth2_tests_support::OneReply;
+use oauth2_wire::{AlwaysReady, HttpResponse};
+use retries::write_retried;
 use std::alloc::Global;
 use std::io::{self, Write};
-
-// An HTTP client that returns one reply.
-#[derive(Drop)]
-struct Canned {
-    reply: Option<HttpResponse>,
-}
-
-impl SyncHttpClient for Canned {
-    type Error = ();
-
-    fn call(&mut self, request: HttpRequest) -> Result<HttpResponse, ()> {
-        drop(request);
-        self.reply.take().ok_or(())
-    }
-}
-
-impl AlwaysReady for Canned {
-    ghost always_ready = { λ _. tt };
-}
 
 fn answered<C: AlwaysReady + Drop>(alloc: Global, mut client: C) -> Option<HttpResponse> {
     client.call(Request::new(alloc, Vec::new(alloc))).ok()
@@ -39,14 +32,15 @@ fn adapted<A: ReplyAdapter + Drop>(
     adapter: A,
     reply: HttpResponse,
 ) -> Option<HttpResponse> {
-    let canned = Canned { reply: Some(reply) };
-    answered(alloc, AdaptedClient::new(alloc, canned, adapter))
+    answered(
+        alloc,
+        AdaptedClient::new(alloc, OneReply::new(reply), adapter),
+    )
 }
 
 // The reply after two adapters, one after the other, have changed it.
 fn adapted_twice(alloc: Global, types: &[&str], reply: HttpResponse) -> Option<HttpResponse> {
-    let canned = Canned { reply: Some(reply) };
-    let typed = AdaptedClient::new(alloc, canned, OtherMediaTypes::new(types));
+    let typed = AdaptedClient::new(alloc, OneReply::new(reply), OtherMediaTypes::new(types));
     answered(alloc, AdaptedClient::new(alloc, typed, ErrorsAtStatus200))
 }
 
@@ -68,8 +62,8 @@ fn adapted_by(
     }
 }
 
-// The reply after the adapter of this line has changed it.
-fn adapted_line(
+// The reply after the adapter of a row `adapter` has changed it.
+fn adapted_row(
     alloc: Global,
     adapter: &str,
     reply: HttpResponse,
@@ -123,7 +117,7 @@ fn write_octets_of<W: Write>(
     writeln!(writer, "{} {types} {body}", reply.status().as_u16())
 }
 
-// The reply of a line `text`, before an adapter changes it; `None` if the line has none.
+// The reply of a row `text`, before an adapter changes it; `None` if the row has none.
 fn text_reply(alloc: Global, media_type: &str, words: &str) -> io::Result<Option<HttpResponse>> {
     let (status, text) = words.split_once(' ').unwrap_or((words, ""));
     let mut headers = HeaderMap::new(alloc);
@@ -138,7 +132,24 @@ fn text_reply(alloc: Global, media_type: &str, words: &str) -> io::Result<Option
     ))
 }
 
-// The reply of a line `octets`, before an adapter changes it; `None` if the line has none.
+// Reads values of Content-Type from hex with commas between them.
+fn types_of(alloc: Global, words: &str) -> Option<HeaderMap> {
+    let mut headers = HeaderMap::new(alloc);
+    if words == "-" {
+        return Some(headers);
+    }
+    for word in words.split(',') {
+        let Ok(octets) = hex::decode(alloc, word) else {
+            return None;
+        };
+        if !add_field(alloc, &mut headers, CONTENT_TYPE, octets.as_slice()) {
+            return None;
+        }
+    }
+    Some(headers)
+}
+
+// The reply of a row `octets`, before an adapter changes it; `None` if the row has none.
 fn octets_reply(alloc: Global, words: &str) -> Option<HttpResponse> {
     let (status, rest) = words.split_once(' ')?;
     let (types, body) = rest.split_once(' ')?;
@@ -149,7 +160,7 @@ fn octets_reply(alloc: Global, words: &str) -> Option<HttpResponse> {
     }
 }
 
-pub(crate) fn write_text<W: Write>(
+fn write_text<W: Write>(
     alloc: Global,
     adapter: &str,
     media_type: &str,
@@ -159,13 +170,13 @@ pub(crate) fn write_text<W: Write>(
     let Some(reply) = text_reply(alloc, media_type, words)? else {
         return writeln!(writer, "?");
     };
-    match adapted_line(alloc, adapter, reply)? {
+    match adapted_row(alloc, adapter, reply)? {
         Some(reply) => write_text_of(&reply, writer),
         None => writeln!(writer, "?"),
     }
 }
 
-pub(crate) fn write_octets<W: Write>(
+fn write_octets<W: Write>(
     alloc: Global,
     adapter: &str,
     words: &str,
@@ -174,8 +185,56 @@ pub(crate) fn write_octets<W: Write>(
     let Some(reply) = octets_reply(alloc, words) else {
         return writeln!(writer, "?");
     };
-    match adapted_line(alloc, adapter, reply)? {
+    match adapted_row(alloc, adapter, reply)? {
         Some(reply) => write_octets_of(alloc, &reply, writer),
         None => writeln!(writer, "?"),
+    }
+}
+
+/// The adapter and the Content-Type of the rows that follow.
+pub struct Adapters {
+    adapter: String,
+    media_type: String,
+}
+
+impl Drop for Adapters {
+    fn drop(self) {
+        let Adapters {
+            adapter: _,
+            media_type: _,
+        } = self;
+    }
+}
+
+impl Adapters {
+    /// No adapter, and an empty Content-Type.
+    pub fn new(alloc: Global) -> Adapters {
+        Adapters {
+            adapter: String::new(alloc),
+            media_type: String::new(alloc),
+        }
+    }
+
+    /// Does what a row says.
+    pub fn run_row<W: Write>(
+        &mut self,
+        alloc: Global,
+        row: &str,
+        writer: &mut W,
+    ) -> anyhow::Result<()> {
+        if let Some(words) = row.strip_prefix("adapter ") {
+            self.adapter = String::from_str(alloc, words)?;
+        } else if let Some(text) = row.strip_prefix("type ") {
+            self.media_type = String::from_str(alloc, text)?;
+        } else if let Some(words) = row.strip_prefix("text ") {
+            write_text(alloc, &self.adapter, &self.media_type, words, writer)?;
+        } else if let Some(words) = row.strip_prefix("octets ") {
+            write_octets(alloc, &self.adapter, words, writer)?;
+        } else if let Some(words) = row.strip_prefix("retry ") {
+            write_retried(alloc, words, writer)?;
+        } else {
+            writeln!(writer, "?")?;
+        }
+        Ok(())
     }
 }

@@ -1,18 +1,27 @@
-//! Runs logins, and prints their results.
+//! The rows `verified_login`.
+//!
+//! A row `keys JSON` reads a key set, and a row `secret TEXT` sets the client's secret. A row
+//! `login ALGORITHM ISSUER TOKEN` finishes a login at the provider of that issuer, whose token
+//! response has that ID token, and prints who the user is, or why there is none. A row `form` does
+//! the same for a redirect whose parameters are a form, and a row `other` for a login that was
+//! started at another provider. A row `again ALGORITHM` checks the signature again that was refused
+//! last, and a row `give up` prints the access token that came with it.
 
-use crate::canned::{NoReply, OneReply};
+use crate::signature_keys::SignatureKeys;
 use jiff::Timestamp;
 use oauth2::basic::BasicErrorResponse;
-use oauth2::url::Url;
-use oauth2::{ClientSecret, FromJson, TokenResponse, read_body};
-use oauth2_keys::{JsonWebKeySet, SecretAlgorithm, SignatureAlgorithm};
+use oauth2::http::Response;
+use oauth2::url::{ParseError, Url};
+use oauth2::{AuthUrl, Client, ClientId, TokenResponse, TokenUrl, read_body};
+use oauth2_keys::SecretAlgorithm;
 use oauth2_openid_login::{
     OpenIdClient, OpenIdLogin, OpenIdProvider, OpenIdTokenResponse, RedirectIssuer,
 };
+use oauth2_tests_support::{NoReply, OneReply};
 use oauth2_verified_login::{
     SignatureCheck, UnverifiedLogin, VerifiedLoginEnd, VerifiedLoginError, VerifiedProvider,
 };
-use std::alloc::Global;
+use std::alloc::{AllocError, Global};
 use std::io::{self, Write};
 use std::time::Duration;
 
@@ -30,20 +39,35 @@ const CALLED: &str = "https://client.example.org/cb";
 
 const FORM: &str = "code=SplxlOBeZQQYbYS6WxSbIA&state=af0ifjsldkj";
 
+// The client of the standard's examples.
+fn client(alloc: Global) -> Result<OpenIdClient, ParseError> {
+    let id = ClientId::from_str(alloc, "s6BhdRkqt3")?;
+    let auth_url = AuthUrl::parse(alloc, "https://server.example.com/authorize")?;
+    let token_url = TokenUrl::parse(alloc, "https://server.example.com/token")?;
+    Ok(
+        Client::new(id)
+            .set_auth_uri(auth_url)
+            .set_token_uri(token_url),
+    )
+}
+
+// An HTTP client that returns a token response with this ID token. Its access token is that of the
+// standard's example A.4.
+fn one_reply(alloc: Global, id_token: &str) -> Result<OneReply, AllocError> {
+    let body = format!(in alloc;
+        "{{\"access_token\":\"jHkWEdUXMU1BwAsC4vtUsZwnNvTIxEl0z9K3vx5KF0Y\",\
+         \"token_type\":\"Bearer\",\"id_token\":\"{id_token}\"}}"
+    )?;
+    Ok(OneReply::new(Response::new(alloc, body.into_bytes())))
+}
+
 // How a signature is checked if its algorithm has this name.
-fn check_of<'a>(
-    name: &str,
-    keys: &'a JsonWebKeySet,
-    secret: &'a ClientSecret,
-) -> Option<SignatureCheck<'a>> {
-    match SignatureAlgorithm::from_name(name) {
-        Some(algorithm) => Some(SignatureCheck::Keys(keys, algorithm)),
-        None => if name == "HS256" {
-            Some(SignatureCheck::Secret(secret, SecretAlgorithm::Hs256))
-        } else {
-            None
-        },
-    }
+fn check_of<'a>(keys: &'a SignatureKeys, name: &str) -> Option<SignatureCheck<'a>> {
+    let by_secret = match name {
+        "HS256" => Some(SecretAlgorithm::Hs256),
+        _ => None,
+    };
+    keys.check(name, by_secret)
 }
 
 fn provider_of<'a>(issuer: &'a str, check: SignatureCheck<'a>) -> VerifiedProvider<'a> {
@@ -78,7 +102,7 @@ fn ended_by_redirect(
 ) -> anyhow::Result<Ended> {
     let now = now()?;
     let redirect = Url::parse(alloc, REDIRECT)?;
-    let mut http_client = OneReply::new(alloc, token)?;
+    let mut http_client = one_reply(alloc, token)?;
     Ok(provider.finish(alloc, login, client, &mut http_client, &redirect, || now))
 }
 
@@ -92,7 +116,7 @@ fn ended_by_form(
 ) -> anyhow::Result<Ended> {
     let now = now()?;
     let called = Url::parse(alloc, CALLED)?;
-    let mut http_client = OneReply::new(alloc, token)?;
+    let mut http_client = one_reply(alloc, token)?;
     Ok(provider.finish_query(
         alloc,
         login,
@@ -148,17 +172,16 @@ fn ended_by(
     }
 }
 
-// The result of the login of a line; `None` if the line has no login.
+// The result of the login of a row; `None` if the row has no login.
 fn ended_of(
     alloc: Global,
     client: &OpenIdClient,
-    keys: &JsonWebKeySet,
-    secret: &ClientSecret,
-    line: &str,
+    keys: &SignatureKeys,
+    row: &str,
 ) -> anyhow::Result<Option<Ended>> {
-    let mut words = line.split(' ');
+    let mut words = row.split(' ');
     let command = words.next().unwrap_or("");
-    let Some(check) = check_of(words.next().unwrap_or(""), keys, secret) else {
+    let Some(check) = check_of(keys, words.next().unwrap_or("")) else {
         return Ok(None);
     };
     let issuer = words.next().unwrap_or("");
@@ -169,8 +192,8 @@ fn ended_of(
 
 /// The logins of a run.
 pub struct Logins {
-    keys: JsonWebKeySet,
-    secret: ClientSecret,
+    client: OpenIdClient,
+    keys: SignatureKeys,
     // The last login whose signature was refused.
     refused: Option<UnverifiedLogin<OpenIdTokenResponse>>,
 }
@@ -178,8 +201,8 @@ pub struct Logins {
 impl Drop for Logins {
     fn drop(self) {
         let Logins {
+            client: _,
             keys: _,
-            secret: _,
             refused: _,
         } = self;
     }
@@ -189,43 +212,35 @@ impl Logins {
     /// A run without a login and a key, and with an empty secret.
     pub fn new(alloc: Global) -> anyhow::Result<Logins> {
         Ok(Logins {
-            keys: JsonWebKeySet::from_body(alloc, br#"{"keys":[]}"#)?,
-            secret: ClientSecret::from_str(alloc, "")?,
+            client: client(alloc)?,
+            keys: SignatureKeys::new(alloc)?,
             refused: None,
         })
     }
 
-    /// Runs the command of a line. If the line has no command, it prints a question mark.
-    pub fn run_line<W: Write>(
+    /// Does what a row says.
+    pub fn run_row<W: Write>(
         &mut self,
         alloc: Global,
-        client: &OpenIdClient,
-        line: &str,
+        row: &str,
         writer: &mut W,
     ) -> anyhow::Result<()> {
-        if let Some(text) = line.strip_prefix("keys ") {
-            self.keys = JsonWebKeySet::from_body(alloc, text.as_bytes())?;
-        } else if let Some(text) = line.strip_prefix("secret ") {
-            self.secret = ClientSecret::from_str(alloc, text)?;
-        } else if let Some(algorithm) = line.strip_prefix("again ") {
+        if self.keys.take_row(alloc, row)? {
+            return Ok(());
+        }
+        if let Some(algorithm) = row.strip_prefix("again ") {
             self.check_again(algorithm, writer)?;
-        } else if line == "give up" {
+        } else if row == "give up" {
             self.give_up(writer)?;
         } else {
-            self.log_in(alloc, client, line, writer)?;
+            self.log_in(alloc, row, writer)?;
         }
         Ok(())
     }
 
-    // Finishes the login of a line, and prints its result.
-    fn log_in<W: Write>(
-        &mut self,
-        alloc: Global,
-        client: &OpenIdClient,
-        line: &str,
-        writer: &mut W,
-    ) -> anyhow::Result<()> {
-        match ended_of(alloc, client, &self.keys, &self.secret, line)? {
+    // Finishes the login of a row, and prints its result.
+    fn log_in<W: Write>(&mut self, alloc: Global, row: &str, writer: &mut W) -> anyhow::Result<()> {
+        match ended_of(alloc, &self.client, &self.keys, row)? {
             Some(ended) => self.show(ended, writer)?,
             None => writeln!(writer, "?")?,
         }
@@ -236,7 +251,7 @@ impl Logins {
         let Some(unverified) = self.refused.take() else {
             return writeln!(writer, "?");
         };
-        let Some(check) = check_of(algorithm, &self.keys, &self.secret) else {
+        let Some(check) = check_of(&self.keys, algorithm) else {
             return writeln!(writer, "?");
         };
         let ended = ended_again(unverified, check);

@@ -1,17 +1,28 @@
-//! Calls of a source of keys, and what is printed of them.
+//! The rows `key_source`.
+//!
+//! A row `source LIFETIME WAIT URL` makes a source, with its times in seconds, and a row `old` lets
+//! it hand out old keys. A row `reply STATUS TYPE BODY` sets the reply to the next request, with
+//! that Content-Type unless it is `-`; until another one is set, a second request fails. A row
+//! `keys MOMENT`, `for MOMENT KID` or `verify MOMENT TOKEN` is a call at that second since 1970 (a
+//! token has to have the algorithm RS256). It prints the names of the keys or the error, and then how
+//! many requests were sent so far. A row `request` prints the last request, and a row `kept` the
+//! names of the keys that are kept.
 
-use crate::canned::{Canned, NoReply};
+mod canned;
+
+use canned::Canned;
 use http_header::ACCEPT;
 use jiff::Timestamp;
 use oauth2_key_source::{KeySetRequest, KeySource, KeySourceError, VerifyError};
 use oauth2_keys::{JsonWebKeySet, ListedKey, SignatureAlgorithm};
 use oauth2_openid::IdToken;
+use oauth2_tests_support::NoReply;
 use oauth2_wire::HttpRequest;
 use std::alloc::Global;
 use std::io::{self, Write};
 use std::time::Duration;
 
-// Why a line has no source, or the source.
+// Why a row has no source, or the source.
 enum Made {
     Source(KeySource),
     Refused(oauth2_key_source::KeySetUrlError),
@@ -41,8 +52,8 @@ fn read_moment(text: &str) -> Option<Timestamp> {
 }
 
 // The name of a call, its moment if it has one, and what is behind it.
-fn words_of(line: &str) -> (&str, Option<Timestamp>, &str) {
-    let mut words = line.split(' ');
+fn words_of(row: &str) -> (&str, Option<Timestamp>, &str) {
+    let mut words = row.split(' ');
     let name = words.next().unwrap_or("");
     let moment = read_moment(words.next().unwrap_or(""));
     (name, moment, words.next().unwrap_or(""))
@@ -131,20 +142,21 @@ impl Sources {
         }
     }
 
-    /// Does what a line says. For a line that says nothing it prints a question mark.
-    pub fn run_line<W: Write>(
+    /// Does what a row says.
+    pub fn run_row<W: Write>(
         &mut self,
         alloc: Global,
-        line: &str,
+        row: &str,
         writer: &mut W,
-    ) -> io::Result<()> {
-        if let Some(text) = line.strip_prefix("source ") {
-            self.make(alloc, text, writer)
-        } else if let Some(text) = line.strip_prefix("reply ") {
-            self.set_reply(alloc, text, writer)
+    ) -> anyhow::Result<()> {
+        if let Some(text) = row.strip_prefix("source ") {
+            self.make(alloc, text, writer)?;
+        } else if let Some(text) = row.strip_prefix("reply ") {
+            self.set_reply(alloc, text, writer)?;
         } else {
-            self.call_line(alloc, line, writer)
+            self.call_row(alloc, row, writer)?;
         }
+        Ok(())
     }
 
     fn make<W: Write>(&mut self, alloc: Global, text: &str, writer: &mut W) -> io::Result<()> {
@@ -160,9 +172,7 @@ impl Sources {
 
     fn set_reply<W: Write>(&mut self, alloc: Global, text: &str, writer: &mut W) -> io::Result<()> {
         let mut words = text.splitn(3, ' ');
-        let Ok(status) = words.next().unwrap_or("").parse::<u16>() else {
-            return writeln!(writer, "?");
-        };
+        let status = words.next().unwrap_or("");
         let media_type = words.next().unwrap_or("-");
         let body = words.next().unwrap_or("");
         if self.client.set_reply(alloc, status, media_type, body) {
@@ -172,12 +182,12 @@ impl Sources {
         }
     }
 
-    fn call_line<W: Write>(&mut self, alloc: Global, line: &str, writer: &mut W) -> io::Result<()> {
+    fn call_row<W: Write>(&mut self, alloc: Global, row: &str, writer: &mut W) -> io::Result<()> {
         let Some(mut source) = self.source.take() else {
             return writeln!(writer, "?");
         };
-        let written = self.call(alloc, &mut source, line, writer);
-        self.source = Some(if line == "old" {
+        let written = self.call(alloc, &mut source, row, writer);
+        self.source = Some(if row == "old" {
             source.use_old_keys()
         } else {
             source
@@ -189,10 +199,10 @@ impl Sources {
         &mut self,
         alloc: Global,
         source: &mut KeySource,
-        line: &str,
+        row: &str,
         writer: &mut W,
     ) -> io::Result<()> {
-        let (command, moment, text) = words_of(line);
+        let (command, moment, text) = words_of(row);
         match (command, moment) {
             ("keys", Some(now)) => {
                 write_answer(source.keys(alloc, now, &mut self.client), writer)?;

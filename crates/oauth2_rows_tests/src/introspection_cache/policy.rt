@@ -1,4 +1,4 @@
-//! What the resource server of a line accepts.
+//! What the resource server of a row accepts.
 
 use oauth2::basic::BasicTokenType;
 use oauth2_introspection_cache::{
@@ -35,9 +35,9 @@ fn type_of(alloc: Global, word: &str) -> anyhow::Result<BasicTokenType> {
 }
 
 impl Policy {
-    /// What a line says: an audience, an issuer, a token type and scopes.
-    pub fn of_line(alloc: Global, line: &str) -> anyhow::Result<Policy> {
-        let mut words = line.split(' ');
+    /// What a row says: an audience, an issuer, a token type and scopes.
+    pub fn of_words(alloc: Global, words: &str) -> anyhow::Result<Policy> {
+        let mut words = words.split(' ');
         let audience = audience_of(alloc, words.next().unwrap_or(""))?;
         let issuer = issuer_of(alloc, words.next().unwrap_or(""))?;
         let token_type = type_of(alloc, words.next().unwrap_or(""))?;

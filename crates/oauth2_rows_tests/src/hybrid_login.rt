@@ -1,8 +1,14 @@
-//! Verifies tokens, and prints the results.
+//! The rows `hybrid_login`.
+//!
+//! A row `keys JSON` reads a key set, and a row `secret TEXT` sets the client's secret. A row
+//! `front ALGORITHM CODE TOKEN` verifies an ID token of the front channel, which came with that
+//! code, and prints who the user is or why the token is refused. A row `second TOKEN` prints whether
+//! a token names the same user as the last one that was verified.
 
+use crate::signature_keys::SignatureKeys;
 use jiff::Timestamp;
-use oauth2::{AuthorizationCode, ClientId, ClientSecret, FromJson};
-use oauth2_keys::{JsonWebKeySet, SecretAlgorithm, SignatureAlgorithm};
+use oauth2::{AuthorizationCode, ClientId};
+use oauth2_keys::SecretAlgorithm;
 use oauth2_openid::{Expected, IdToken, IssuerRule, Nonce};
 use oauth2_verified_login::{FrontExpected, FrontTokenError, SignatureCheck, VerifiedFrontToken};
 use std::alloc::{AllocError, Global};
@@ -12,19 +18,13 @@ use std::time::Duration;
 type Verified = Result<VerifiedFrontToken, FrontTokenError>;
 
 // How a signature is checked if its algorithm has this name.
-fn check_of<'a>(
-    name: &str,
-    keys: &'a JsonWebKeySet,
-    secret: &'a ClientSecret,
-) -> Option<SignatureCheck<'a>> {
-    match SignatureAlgorithm::from_name(name) {
-        Some(algorithm) => Some(SignatureCheck::Keys(keys, algorithm)),
-        None => match name {
-            "HS256" => Some(SignatureCheck::Secret(secret, SecretAlgorithm::Hs256)),
-            "HS512" => Some(SignatureCheck::Secret(secret, SecretAlgorithm::Hs512)),
-            _ => None,
-        },
-    }
+fn check_of<'a>(keys: &'a SignatureKeys, name: &str) -> Option<SignatureCheck<'a>> {
+    let by_secret = match name {
+        "HS256" => Some(SecretAlgorithm::Hs256),
+        "HS512" => Some(SecretAlgorithm::Hs512),
+        _ => None,
+    };
+    keys.check(name, by_secret)
 }
 
 // What the client of the standard's examples expects of a token with this algorithm.
@@ -60,27 +60,25 @@ fn verified_front(
     Ok(VerifiedFrontToken::verify(alloc, text, &code, &expected, check, now))
 }
 
-// The result for the token of a line; `None` if the line has no algorithm.
+// The result for the token of a row; `None` if the row has no algorithm.
 fn verified_of(
     alloc: Global,
-    keys: &JsonWebKeySet,
-    secret: &ClientSecret,
-    line: &str,
+    keys: &SignatureKeys,
+    words: &str,
 ) -> anyhow::Result<Option<Verified>> {
-    let mut words = line.split(' ');
+    let mut words = words.split(' ');
     let algorithm = words.next().unwrap_or("");
     let code = words.next().unwrap_or("");
     let text = words.next().unwrap_or("");
-    match check_of(algorithm, keys, secret) {
+    match check_of(keys, algorithm) {
         Some(check) => Ok(Some(verified_front(alloc, algorithm, code, text, check)?)),
         None => Ok(None),
     }
 }
 
-/// The keys and the secret of a run, and the last token that was verified.
+/// What tokens are verified by, and the last token that was verified.
 pub struct Tokens {
-    keys: JsonWebKeySet,
-    secret: ClientSecret,
+    keys: SignatureKeys,
     verified: Option<VerifiedFrontToken>,
 }
 
@@ -88,7 +86,6 @@ impl Drop for Tokens {
     fn drop(self) {
         let Tokens {
             keys: _,
-            secret: _,
             verified: _,
         } = self;
     }
@@ -98,26 +95,24 @@ impl Tokens {
     /// A run without a key and a token, and with an empty secret.
     pub fn new(alloc: Global) -> anyhow::Result<Tokens> {
         Ok(Tokens {
-            keys: JsonWebKeySet::from_body(alloc, br#"{"keys":[]}"#)?,
-            secret: ClientSecret::from_str(alloc, "")?,
+            keys: SignatureKeys::new(alloc)?,
             verified: None,
         })
     }
 
-    /// Runs the command of a line. If the line has no command, it prints a question mark.
-    pub fn run_line<W: Write>(
+    /// Does what a row says.
+    pub fn run_row<W: Write>(
         &mut self,
         alloc: Global,
-        line: &str,
+        row: &str,
         writer: &mut W,
     ) -> anyhow::Result<()> {
-        if let Some(text) = line.strip_prefix("keys ") {
-            self.keys = JsonWebKeySet::from_body(alloc, text.as_bytes())?;
-        } else if let Some(text) = line.strip_prefix("secret ") {
-            self.secret = ClientSecret::from_str(alloc, text)?;
-        } else if let Some(text) = line.strip_prefix("front ") {
-            self.verify(alloc, text, writer)?;
-        } else if let Some(text) = line.strip_prefix("second ") {
+        if self.keys.take_row(alloc, row)? {
+            return Ok(());
+        }
+        if let Some(words) = row.strip_prefix("front ") {
+            self.verify(alloc, words, writer)?;
+        } else if let Some(text) = row.strip_prefix("second ") {
             self.compare(alloc, text, writer)?;
         } else {
             writeln!(writer, "?")?;
@@ -128,10 +123,10 @@ impl Tokens {
     fn verify<W: Write>(
         &mut self,
         alloc: Global,
-        line: &str,
+        words: &str,
         writer: &mut W,
     ) -> anyhow::Result<()> {
-        match verified_of(alloc, &self.keys, &self.secret, line)? {
+        match verified_of(alloc, &self.keys, words)? {
             Some(verified) => self.show(verified, writer)?,
             None => writeln!(writer, "?")?,
         }
