@@ -5,12 +5,13 @@ import re
 
 import repository
 import sources
+import stored_scripts
 
 WORDS = 'no one two three four five six seven eight nine ten eleven twelve'.split()
 # A mark: what is counted and where, and the number on the page, if there is one yet.
 MARK = re.compile(r'(<!-- (count|value|scripts)\s+(.*?)\s*-->)(\d+(?:,\d{3})*|(?:%s)\b)?' % '|'.join(WORDS), re.S)
 AT_BEGINNING = re.compile(r'^ *(<!-- (?:count|value|scripts|lines)\b.*)', re.M)
-SCRIPTS = os.path.join('crates', 'oauth2_scripts_tests', 'stdin')
+SCRIPTS = os.path.relpath(stored_scripts.SCRIPTS, repository.ROOT)
 
 
 class BadCount(Exception):
@@ -47,7 +48,7 @@ def value(where):
 
 
 def scripts(sections):
-    """How many scripts `oauth2_scripts_tests` has from one section to another one, both counted, given as `FIRST .. LAST`."""
+    """How many stored scripts there are from one section to another one, both counted, given as `FIRST .. LAST`."""
     first, _, last = sections.partition(' .. ')
     parts = re.split(r'(?m)^# (.*)\n', read(SCRIPTS))
     names, texts = parts[1::2], parts[2::2]

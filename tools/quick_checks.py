@@ -69,6 +69,11 @@ def readme():
     return [of_tool('readme'), of_tool('try-c-examples')]
 
 
+def scripts():
+    """The stored scripts, by the program compiled without proofs."""
+    return [of_tool('stored-scripts', '--unproved')]
+
+
 def has_tests(crate):
     """Whether a test function stands in a crate's sources."""
     for at, _, names in os.walk(os.path.join(repository.CRATES, crate, 'src')):

@@ -87,8 +87,8 @@ class Run:
                            'replies': self.replies}, separators=(',', ':'))
 
     def output(self):
-        """What `oauth2_scripts_tests` has to print of it."""
-        return [*self.lines, 'Ok(Fault)' if self.is_fault else 'Ok(Answered)']
+        """The lines that the program has to print of it, and then its status."""
+        return [*self.lines, 'exit %d' % self.is_fault]
 
 
 def run_of(words, keepers):

@@ -63,10 +63,13 @@ class SharedTokens(unittest.TestCase):
             self.assertEqual([line.split(' ', 2)[2] for line in run.output() if line.startswith('keeper ')], lines)
 
     def test_a_script_that_prints_something_else(self):
-        for said, count in ((['Ok(Fault)'], 1), (None, 1)):
+        words = ['l0', 'd0']
+        right = scripts.run_of(words, 2).output()
+        for lines, status, count in ((right[:-1], 0, 0), (right[:-1], 1, 1), ([], 0, 1), ([], -6, 1)):
             comparison = TOOL.Comparison('')
-            with mock.patch.object(TOOL, 'lines_of', lambda _, runs, said=said: [said for _ in runs]):
-                TOOL.compare_scripts(comparison, [(['l0', 'd0'], 2)])
+            ended = TOOL.program.Run(status, ''.join(it + '\n' for it in lines).encode(), b'')
+            with mock.patch.object(TOOL.program, 'runs', lambda _, given, ended=ended: [ended for _ in given]):
+                TOOL.compare_scripts(comparison, [(words, 2)])
             self.assertEqual(sum(comparison.differences.values()), count)
 
     def test_a_copy_goes_its_own_way(self):

@@ -16,7 +16,7 @@ import picture_poll
 import picture_sequence
 import picture_states
 import repository
-import sources
+import stored_scripts
 import tool
 
 pictures = tool.load('pictures')
@@ -69,14 +69,9 @@ class Polls(unittest.TestCase):
 
     def test_sleeps_are_those_of_the_program(self):
         """The stored scripts of polls that wait longer, with what the proved program writes of them."""
-        def section(name):
-            text = sources.read(os.path.join(repository.CRATES, 'oauth2_scripts_tests', name))
-            return re.search(r'(?ms)^# polls that wait longer after slow_down and failed calls\n(.*?)^#', text).group(1)
-        scripts = [json.loads(it) for it in section('stdin').splitlines()]
-        ends = re.split(r'(?m)^Ok\(.*\n', section('stdout'))[:-1]
-        self.assertEqual(len(scripts), len(ends))
+        stored = [it for it in stored_scripts.all_stored() if it.heading == 'polls that wait longer after slow_down and failed calls']
         compared = 0
-        for script, said in zip(scripts, ends):
+        for script, said in ((json.loads(it.script), it.run.out.decode()) for it in stored):
             interval, cap = script['params']['device']['interval'], script['params'].get('cap', 10)
             for reply, sleep in zip(script['replies'], re.findall(r'(?m)^sleep (\d+)\.', said)):
                 answer = 'failed' if 'fail' in reply else json.loads(reply['body'])['error']

@@ -15,8 +15,10 @@ import program
 import repository
 import script_faults
 import sources
+import stored_scripts
 import tool
 
+BAD_SCRIPT = 2
 SPECS = os.path.join(repository.CRATES, 'oauth2_script', 'specs')
 PAGE = sources.read(script_faults.PAGE)
 # What is said of a script that is bad.
@@ -50,15 +52,11 @@ class Faults(unittest.TestCase):
 
     def test_a_good_script_has_none(self):
         """Of the stored scripts that the program takes, some have members that it ignores; none has a fault."""
-        run = [sources.read(os.path.join(repository.CRATES, 'oauth2_scripts_tests', it)).splitlines() for it in ('stdin', 'stdout')]
-        scripts = [it for it in run[0] if not it.startswith('#')]
-        ends = [it for it in run[1] if re.fullmatch(r'Ok\(\w+\)', it)]
-        self.assertEqual(len(scripts), len(ends))
         ignored = []
-        for script, end in [*zip(scripts, ends), *((it.decode(), 'Ok(Answered)') for it in program.examples().values())]:
-            if end != 'Ok(BadScript)':
-                ignored += script_faults.told_of(script.encode(), False)
-                self.assertIn(script_faults.ELSE, script_faults.told_of(script.encode(), True), script[:200])
+        taken = [it.script for it in stored_scripts.all_stored() if it.run.status != BAD_SCRIPT]
+        for script in [*taken, *program.examples().values()]:
+            ignored += script_faults.told_of(script, False)
+            self.assertIn(script_faults.ELSE, script_faults.told_of(script, True), script[:200])
         known = [('"params" of "authorize"', 'client_assertion')]
         known += [('"params" of "redirect"', it) for it in ('code', 'extra', 'scopes', 'verifier')]
         known += [('"params" of "refresh"', 'verifier'), ('the script', 'x')]

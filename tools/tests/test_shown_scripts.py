@@ -1,7 +1,6 @@
 """Tests of tools/shown_scripts.py: which scripts a page shows, and that those which are stored too print there what the page says."""
 import json
 import os
-import re
 import sys
 import unittest
 
@@ -10,6 +9,7 @@ sys.path.insert(0, os.path.dirname(os.path.dirname(os.path.abspath(__file__))))
 import repository
 import shown_scripts
 import sources
+import stored_scripts
 from shown_scripts import Shown
 
 PAGE = '''A script:
@@ -47,7 +47,6 @@ prints, with exit 0,
 
     five
 '''
-STATUS = {'Answered': 0, 'Fault': 1, 'BadScript': 2}
 
 
 class Pages(unittest.TestCase):
@@ -72,19 +71,15 @@ class Pages(unittest.TestCase):
 
 
 class Stored(unittest.TestCase):
-    """The scripts of the pages that crates/oauth2_scripts_tests has too, with what the proved program writes of them."""
+    """The scripts of the pages that crates/oauth2_run/scripts has too, with what the proved program writes of them."""
 
     def test_lines_of_stored_scripts(self):
-        folder = os.path.join(repository.CRATES, 'oauth2_scripts_tests')
-        scripts = [it for it in sources.read(os.path.join(folder, 'stdin')).splitlines() if it and not it.startswith('#')]
-        printed = re.split(r'(?m)^Ok\((\w+)\)\n', re.sub(r'(?m)^#.*\n', '', sources.read(os.path.join(folder, 'stdout'))))
-        stored = dict(zip(scripts, zip(printed[0::2], printed[1::2])))
-        self.assertEqual(len(scripts), len(printed) // 2)
+        stored = {it.script.decode(): it.run for it in stored_scripts.all_stored()}
         found = [(it, stored[it.script.rstrip()]) for _, it in shown_scripts.all_shown() if it.script.rstrip() in stored]
         self.assertGreater(len(found), 9)
-        for shown, (lines, end) in found:
+        for shown, run in found:
             with self.subTest(shown.script):
-                self.assertIsNone(shown_scripts.difference(shown, STATUS[end], lines))
+                self.assertIsNone(shown_scripts.difference(shown, run.status, run.out.decode()))
 
 
 if __name__ == '__main__':

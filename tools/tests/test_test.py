@@ -14,8 +14,8 @@ sys.path.insert(0, tool.TOOLS)
 test = tool.load('test')
 
 # The gate's parts, and the functions of tools/test that run them.
-PARTS = {'pages and tools': 'quick', 'rt ci': 'gate', 'tools/refusals': 'refusals', 'tools/try-c-examples': 'c_examples',
-         'tools/readme': 'readme'}
+PARTS = {'pages and tools': 'quick', 'rt ci': 'gate', 'tools/stored-scripts': 'scripts', 'tools/refusals': 'refusals',
+         'tools/try-c-examples': 'c_examples', 'tools/readme': 'readme'}
 
 
 def gate(failing=None):
@@ -43,12 +43,18 @@ def gate(failing=None):
 class Gate(unittest.TestCase):
     def test_parts(self):
         counts, ran, recorded, said = gate()
-        self.assertEqual((counts, ran, recorded, said), ((15, 0), list(PARTS), list(PARTS), ''))
+        self.assertEqual((counts, ran, recorded, said), ((18, 0), list(PARTS), list(PARTS), ''))
 
     def test_a_part_that_fails(self):
         counts, ran, recorded, said = gate('refusals')
-        self.assertEqual((counts, ran, recorded), ((8, 1), list(PARTS)[:3], list(PARTS)[:3]))
-        self.assertEqual(said, ''.join('tools/test: %s is not run, since something failed before it\n' % it for it in list(PARTS)[3:]))
+        self.assertEqual((counts, ran, recorded), ((11, 1), list(PARTS)[:4], list(PARTS)[:4]))
+        self.assertEqual(said, ''.join('tools/test: %s is not run, since something failed before it\n' % it for it in list(PARTS)[4:]))
+
+    def test_scripts_run_by_both_builds(self):
+        with mock.patch.object(test, 'counts_of') as counts:
+            test.scripts()
+        (command,), _ = counts.call_args
+        self.assertEqual(command[1:], ['--program', test.program.PROGRAM, '--program', test.program.PROGRAM + '.by-rattle'])
 
     def test_readme_is_one_check(self):
         with mock.patch.object(test.quick_checks, 'run') as run:

@@ -1,5 +1,5 @@
 //! Tests of the content of a request, how a server decodes it, how it is sent and how its reply is
-//! read, through the names of `oauth2`. They test what the stored scripts of `oauth2_scripts_tests`
+//! read, through the names of `oauth2`. They test what the stored scripts of `oauth2_run`
 //! cannot.
 
 mod added_params;

@@ -4,6 +4,8 @@
 
 mod exit;
 #[cfg(test)]
+mod streams;
+#[cfg(test)]
 mod tests;
 
 use exit::exit_of;
