@@ -9,8 +9,6 @@ mod clock;
 #[cfg(test)]
 mod common;
 #[cfg(test)]
-mod openid;
-#[cfg(test)]
 mod openid_login;
 #[cfg(test)]
 mod pushed_login;

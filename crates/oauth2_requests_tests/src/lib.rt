@@ -9,10 +9,6 @@ mod authorization_details;
 #[cfg(test)]
 mod checks;
 #[cfg(test)]
-mod client_assertions;
-#[cfg(test)]
-mod client_secret_jwt;
-#[cfg(test)]
 mod grants;
 #[cfg(test)]
 mod messages;

@@ -1,6 +1,6 @@
 //! Tests of ID tokens that meet each rule, and of ID tokens that break one.
 
-use crate::openid::support::{ACCESS_TOKEN, APPENDIX_A2, assert_text_at, read, text, token};
+use crate::support::{ACCESS_TOKEN, APPENDIX_A2, assert_text_at, read, text, token};
 use jiff::Timestamp;
 use oauth2_openid::{AccessTokenHash, ClaimsError, Expected, IssuerRule, Nonce};
 use oauth2_types::{AccessToken, ClientId};

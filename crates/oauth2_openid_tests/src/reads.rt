@@ -1,7 +1,6 @@
 //! Tests of texts that are ID tokens, and of texts that are not.
 
-use crate::common::generator;
-use crate::openid::support::{
+use crate::support::{
     APPENDIX_A2, assert_debugged_as, assert_displayed_as, assert_equal, assert_text,
     assert_text_at, read, text, token,
 };
@@ -11,6 +10,7 @@ use oauth2_json::FromJson;
 use oauth2_openid::{ClaimsError, IdToken, IdTokenClaims, IdTokenFields, IdTokenText, Nonce};
 use oauth2_replies::StandardTokenResponse;
 use oauth2_types::TryClone;
+use rand_pcg::Pcg32;
 use serde_json::Value;
 use std::process::Abort;
 
@@ -300,7 +300,7 @@ fn text_in(rt: &(impl Abort + AllocGlobal), fields: &IdTokenFields) -> String {
 
 // A nonce of random bytes, as a text.
 fn random_nonce(rt: &(impl Abort + AllocGlobal)) -> String {
-    let mut rng = generator();
+    let mut rng = Pcg32::new(42, 54);
     Nonce::new_random(rt.alloc(), &mut rng)
         .expect(rt, "a nonce")
         .into_secret()
