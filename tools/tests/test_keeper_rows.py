@@ -1,17 +1,18 @@
-"""Derives every line that the program oauth2_refusals_tests has to print for its rows of keepers, and compares them with the file `stdout`
-of that crate.
+"""Derives every line that the program oauth2_keeper_refusals_tests has to print, and compares them with the file `stdout` of that crate.
 
 The rows' inputs stand here once more, as data. The lines follow from docs/SCRIPT.md (the table of `keeper`), the README.md of
 oauth2_keeper and oauth2_stored_token, the texts of docs/ERRORS.md, and RFC 6749: sections 4.4.2 and 6, with the forms of appendix B.
 Moments and spans are whole nanoseconds; moments count from 1970.
 """
 import json
+import os
 import unittest
 from datetime import datetime, timedelta, timezone
 from urllib.parse import urlencode
 
-import stored_rows
+import tool
 
+CRATE = os.path.join(os.path.dirname(tool.TOOLS), 'crates', 'oauth2_keeper_refusals_tests')
 SECOND = 10 ** 9
 MOST_SPAN = 2 ** 64 * SECOND - 1
 # jiff's moments: those whose local time is in the years -9999 to 9999 at each offset of up to 25:59:59. Python's years begin at 1; 400
@@ -187,8 +188,8 @@ def not_taken_lines(stored, what):
 
 def row_lines(name):
     if name in TEXTS:
-        return text_lines(TEXTS[name])
-    return not_taken_lines(*NOT_TAKEN[name]) if name in NOT_TAKEN else keeper_lines({**USUAL, **ROWS[name]})
+        return ['row ' + name] + text_lines(TEXTS[name])
+    return ['row ' + name] + (not_taken_lines(*NOT_TAKEN[name]) if name in NOT_TAKEN else keeper_lines({**USUAL, **ROWS[name]}))
 
 
 class KeeperRows(unittest.TestCase):
@@ -198,7 +199,10 @@ class KeeperRows(unittest.TestCase):
         self.assertEqual((FIRST, LAST), (-377705023201 * SECOND, 253402207200999999999))
 
     def test_lines(self):
-        self.assertEqual({name: row_lines(name) for name in [*ROWS, *TEXTS, *NOT_TAKEN]}, stored_rows.lines_of('keeper'))
+        with open(os.path.join(CRATE, 'stdin')) as names, open(os.path.join(CRATE, 'stdout')) as wanted:
+            names = names.read().splitlines()
+            self.assertEqual(names, [*ROWS, *TEXTS, *NOT_TAKEN])
+            self.assertEqual([line for name in names for line in row_lines(name)], wanted.read().splitlines())
 
 
 if __name__ == '__main__':

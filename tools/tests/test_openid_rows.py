@@ -1,5 +1,5 @@
-"""Derives every line that the program oauth2_refusals_tests has to print for its rows of OpenID Connect, and compares them with the file
-`stdout` of that crate.
+"""Derives every line that the program oauth2_openid_refusals_tests has to print, and compares them with the file `stdout` of that
+crate.
 
 The rows' inputs stand here once more, as data: those of the examples of OpenID Connect Core 1.0, if nothing else is said. Only the ID
 tokens are taken from the sources, and decoded. The lines follow from RFC 6749, sections 4.1.1 and 4.1.3, RFC 7636, section 4, OpenID
@@ -14,8 +14,9 @@ import re
 import unittest
 from urllib.parse import urlencode
 
-import stored_rows
+import tool
 
+CRATE = os.path.join(os.path.dirname(tool.TOOLS), 'crates', 'oauth2_openid_refusals_tests')
 CLIENT_ID = 's6BhdRkqt3'
 REDIRECT_URI = 'https://client.example.org/cb'
 VERIFIER = 'dBjftJeZ4CVP-mB92K27uhbUJU1p1r_wW1gFWFOEjXk'  # of RFC 7636, appendix B
@@ -48,7 +49,7 @@ def stored(**members):
 
 def user(source):
     """The lines of the ID token that stands in a source: its subject, and whether its hash is the access token's."""
-    with open(os.path.join(stored_rows.CRATE, 'src', 'openid', source)) as f:
+    with open(os.path.join(CRATE, 'src', source)) as f:
         text = re.sub(r'\\\n *', '', f.read())
     payload, = re.findall(r'eyJ[\w-]+\.([\w-]+)\.[\w-]+', text)
     claims = json.loads(base64.urlsafe_b64decode(payload + '=='))
@@ -78,7 +79,7 @@ def login():
     return ['calls 1', 'body ' + urlencode(body)] + user('ends.rt')
 
 
-LINES = {'start': start, 'stored': read_and_stored, 'login': login, 'token': lambda: user('tokens.rt')}
+LINES = {'openid_start': start, 'openid_stored': read_and_stored, 'openid_login': login, 'openid_token': lambda: user('tokens.rt')}
 
 
 class OpenIdRows(unittest.TestCase):
@@ -89,7 +90,10 @@ class OpenIdRows(unittest.TestCase):
         self.assertEqual(drawn(42, 54, 8), (0xa15c02b7).to_bytes(4, 'little') + (0x7b47f409).to_bytes(4, 'little'))
 
     def test_lines(self):
-        self.assertEqual({name: lines() for name, lines in LINES.items()}, stored_rows.lines_of('openid'))
+        with open(os.path.join(CRATE, 'stdin')) as names, open(os.path.join(CRATE, 'stdout')) as wanted:
+            names = names.read().splitlines()
+            self.assertEqual(names, [*LINES])
+            self.assertEqual([line for name in names for line in ['row ' + name] + LINES[name]()], wanted.read().splitlines())
 
 
 if __name__ == '__main__':

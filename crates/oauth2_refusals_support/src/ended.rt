@@ -20,8 +20,6 @@ pub enum Want {
     Row,
     AllocError,
     CodeFlowError,
-    IdTokenReadError,
-    OpenIdLoginError { sent: bool },
     ParseError,
     ReadError,
     RedirectError,

@@ -11,8 +11,9 @@ const MOST_BYTES: usize = 4096;
 
 /// The rows of a program, by their names.
 pub trait Rows {
-    /// Runs the row of this name, and prints its result.
-    fn show_row<W: Write>(alloc: Global, name: &str, out: &mut W) -> Result<(), Ended>;
+    /// Runs the row of this name, and prints its result. `Ok(false)`: memory ran out in a call
+    /// whose error `Want` lacks, and the row's last line says so.
+    fn show_row<W: Write>(alloc: Global, name: &str, out: &mut W) -> Result<bool, Ended>;
 }
 
 /// Runs the rows that the input names, one on each line, and prints the result of each.
@@ -52,15 +53,14 @@ fn show_rows<T: Rows, R: Read, W: Write>(
     Ok(is_fed)
 }
 
-// Returns `true` if a row has a result. Prints the line for a row that ran out of memory, so that
-// the next row runs; any other error ends the run.
-fn show_want<W: Write>(ended: Result<(), Ended>, out: &mut W) -> Result<bool, Ended> {
+// Prints the line for a row that ran out of memory, so that the next row runs; any other error ends
+// the run.
+fn show_want<W: Write>(ended: Result<bool, Ended>, out: &mut W) -> Result<bool, Ended> {
     match ended {
-        Ok(()) => Ok(true),
         Err(Ended::Starved(want)) => {
             writeln!(out, "memory {want:?}")?;
             Ok(false)
         }
-        Err(other) => Err(other),
+        other => other,
     }
 }

@@ -1,0 +1,26 @@
+//! Tests of `oauth2_keeper` and `oauth2_stored_token`: runs the rows that standard input names, one
+//! on each line, and prints the result of each. The file `stdout` has the expected output:
+//! `tools/tests/test_keeper_rows.py` derives each line from the row's inputs, RFC 6749 and the
+//! pages. `tools/refusals` makes each row run out of memory.
+//!
+//! Printing does not allocate, so an allocation that fails belongs to a call of the row, or to the
+//! values that it is called with. The exit status is that of `run_rows`.
+
+#![tactic(auto)]
+
+mod additions;
+mod calls;
+mod client;
+mod ends;
+mod rows;
+mod stored;
+mod values;
+
+use oauth2_refusals_support::run_rows;
+use rows::KeeperRows;
+use std::io;
+use std::process::ExitCode;
+
+fn main(rt: HostRuntime) -> ExitCode {
+    run_rows::<KeeperRows, _, _>(rt.alloc(), &mut rt.reader(), &mut io::writer(&rt))
+}
