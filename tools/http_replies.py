@@ -1,4 +1,4 @@
-"""Replies of HTTP/1.1 and what oauth2_programs reads of them; for tools/compare-replies and tools/compare-http1."""
+"""Replies of HTTP/1.1 and what oauth2_examples reads of them; for tools/compare-replies and tools/compare-http1."""
 import base64
 import collections
 import contextlib
@@ -7,7 +7,7 @@ import os
 import socket
 import subprocess
 
-NAME = 'oauth2_programs'
+NAME = 'oauth2_examples'
 MOST_FIELDS = 100
 MOST_BYTES = 16384  # of a head, of the extensions of all chunks, and of the trailers
 MOST_OF_A_READ = 4096

@@ -22,7 +22,7 @@ ROOT = '//! %s\n\n#![tactic(auto)]\n\n%s'
 # What a module can't have as a crate does, or what would mean something else there.
 UNFIT = ('#![', '#[path', 'extern crate ', 'macro_rules!', 'include!', 'include_str!', 'include_bytes!')
 TEST = '#[test]'
-MAIN = re.compile(r'(?m)^fn main\(rt: HostRuntime\) -> (ExitCode|(?:io|anyhow)::Result<(?:\(\)|ExitCode)>) \{$')
+MAIN = re.compile(r'(?m)^fn main\(rt: HostRuntime\) -> (ExitCode|(?:io|anyhow)::Result<\(\)>) \{$')
 PASSED = re.compile(r'(?m)^test (\w+)::\S+ \.\.\. ok$')
 CASE = re.compile(r'(?m)^case=(\w+) run=ended status=(\d+) .*\boutput=expected ')
 NO_PROGRAM = 125
@@ -32,13 +32,6 @@ use std::process::ExitCode;
 fn status_of<E: Drop>(run: Result<(), E>) -> ExitCode {
     match run {
         Ok(()) => ExitCode::from(0),
-        Err(_) => ExitCode::from(1),
-    }
-}
-
-fn status_in<E: Drop>(run: Result<ExitCode, E>) -> ExitCode {
-    match run {
-        Ok(status) => status,
         Err(_) => ExitCode::from(1),
     }
 }
@@ -150,10 +143,8 @@ class Programs:
         """The function `main`, with what it needs."""
         called = ''
         for crate in self.crates:
-            kind, call = MAIN.search(texts_of(crate)['main.rt']).group(1), '%s::main(rt)' % crate
-            if kind != 'ExitCode':
-                call = '%s(%s)' % ('status_of' if kind.endswith('<()>') else 'status_in', call)
-            called += '        "%s" => %s,\n' % (crate, call)
+            kind = MAIN.search(texts_of(crate)['main.rt']).group(1)
+            called += '        "%s" => %s,\n' % (crate, ('%s::main(rt)' if kind == 'ExitCode' else 'status_of(%s::main(rt))') % crate)
         return MAIN_OF_ALL % (NO_PROGRAM, called, NO_PROGRAM)
 
     def command_in(self, top):

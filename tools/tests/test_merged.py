@@ -13,7 +13,7 @@ import program
 import quick_checks
 import repository
 
-ROWS = {'low': 'low: url', 'one': 'one: low url', 'two': 'two: low hex', 'run': 'run: low', 'walk': 'walk: low', 'ask': 'ask: low'}
+ROWS = {'low': 'low: url', 'one': 'one: low url', 'two': 'two: low hex', 'run': 'run: low', 'walk': 'walk: low'}
 MODULE = '#![tactic(auto)]\n\n#[cfg(test)]\nmod rows;\n'
 ROW = 'use crate::support::{self, check};\nuse low::Low;\n\n#[test]\nfn row() {}\n'
 FILES = {
@@ -27,7 +27,6 @@ FILES = {
     'crates/run/stdout': 'one\n',
     'crates/run/data/deep/file': 'text\n',
     'crates/walk/src/main.rt': '//! Walks.\n\n#![tactic(auto)]\n\nfn main(rt: HostRuntime) -> ExitCode {\n    ExitCode::from(3)\n}\n',
-    'crates/ask/src/main.rt': '//! Asks.\n\n#![tactic(auto)]\n\nfn main(rt: HostRuntime) -> anyhow::Result<ExitCode> {\n}\n',
     'crates/walk/stdout': '',
     'crates/walk/args': '--flag\nword\n',
     'crates/walk/status': '3\n',
@@ -107,9 +106,6 @@ class Programs(Case):
         text = self.read(os.path.join(at, 'src', 'main.rt'))
         self.assertIn('        "run" => status_of(run::main(rt)),\n        "walk" => walk::main(rt),\n', text)
         self.assertIn('pub fn main(rt: HostRuntime) -> io::Result<()> {', self.read(os.path.join(at, 'src', 'run', 'mod.rt')))
-
-    def test_how_each_ends(self):
-        self.assertIn('        "ask" => status_in(ask::main(rt)),\n', merged.Programs(['ask']).main())
 
     def test_which_pass(self):
         made = merged.Programs(['run', 'walk'])

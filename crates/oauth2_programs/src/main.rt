@@ -1,5 +1,5 @@
-//! Programs to copy from. The first argument names the program to run. Without an argument, all
-//! programs run that need no user, and then `over_connection`.
+//! Short programs to copy from. The argument names the program to run. Without an argument, all
+//! programs run that need no user.
 
 #![tactic(auto)]
 
@@ -14,22 +14,16 @@ mod implicit;
 mod kept_token;
 mod login;
 mod openid;
-mod over_connection;
 mod password;
-mod pushed_login;
 mod refresh;
 mod resource_server;
 mod revocation;
-mod stored_token;
-mod token_exchange;
-mod workload;
 
 use anyhow::anyhow;
 use std::env;
-use std::process::ExitCode;
 
-// The programs with a `CannedClient` that run without an argument, in this order.
-const PROGRAMS: [&str; 16] = [
+// The programs that run without an argument, in this order.
+const PROGRAMS: [&str; 13] = [
     "full_client",
     "discovery",
     "openid",
@@ -43,13 +37,9 @@ const PROGRAMS: [&str; 16] = [
     "implicit",
     "error_codes",
     "errors",
-    "token_exchange",
-    "workload",
-    "pushed_login",
 ];
 
-// Runs a program whose HTTP client is a `CannedClient`.
-fn run_canned(rt: HostRuntime, name: &str) -> anyhow::Result<()> {
+fn run(rt: HostRuntime, name: &str) -> anyhow::Result<()> {
     match name {
         "client_credentials" => client_credentials::main(rt),
         "device" => device::main(rt),
@@ -62,35 +52,20 @@ fn run_canned(rt: HostRuntime, name: &str) -> anyhow::Result<()> {
         "login" => login::main(rt),
         "openid" => openid::main(rt),
         "password" => password::main(rt),
-        "pushed_login" => pushed_login::main(rt),
         "refresh" => refresh::main(rt),
         "resource_server" => resource_server::main(rt),
         "revocation" => revocation::main(rt),
-        "token_exchange" => token_exchange::main(rt),
-        "workload" => workload::main(rt),
         _ => Err(anyhow!("no program has this name")),
     }
 }
 
-fn run(rt: HostRuntime, name: &str) -> anyhow::Result<ExitCode> {
-    match name {
-        "over_connection" => Ok(over_connection::main(rt)),
-        "stored_token" => Ok(stored_token::main(rt)),
-        _ => {
-            run_canned(rt, name)?;
-            Ok(ExitCode::from(0))
-        }
-    }
-}
-
-fn main(rt: HostRuntime) -> anyhow::Result<ExitCode> {
+fn main(rt: HostRuntime) -> anyhow::Result<()> {
     if let Some(name) = env::args(&rt)?.nth(1) {
         return run(rt, name.as_str());
     }
     for name in PROGRAMS {
         println!(rt; "{name}:")?;
-        run_canned(rt.clone()?, name)?;
+        run(rt.clone()?, name)?;
     }
-    println!(rt; "over_connection:")?;
-    Ok(over_connection::main(rt))
+    Ok(())
 }

@@ -2,7 +2,7 @@
 //! and reads the reply from standard input. `socat` or a similar program opens the connection, with
 //! TLS:
 //!
-//!     socat OPENSSL:as.example:443 EXEC:'oauth2_programs over_connection settings.json'
+//!     socat OPENSSL:as.example:443 EXEC:'oauth2_examples over_connection settings.json'
 //!
 //! The answer is one line of JSON on standard error. The exit status is 0 if there is an answer, 1
 //! if the request got none, and 2 if a setting is wrong; then nothing is written to the connection.
@@ -23,9 +23,9 @@ use std::process::ExitCode;
 /// The HTTP client of a run: its only connection is standard input and output.
 pub type HttpClient = Http1Client<Over<Duplex<Stdin, Stdout>>>;
 
-/// Makes the request that the settings file names, and prints the answer or the error.
-pub fn main(rt: HostRuntime) -> ExitCode {
-    ended(&rt, run(&rt))
+/// Makes the request that the settings file at `path` names, and prints the answer or the error.
+pub fn over_connection(rt: &HostRuntime, path: &str) -> ExitCode {
+    ended(rt, run(rt, path))
 }
 
 /// Prints the answer or the error on standard error, and returns the exit status.
@@ -42,8 +42,8 @@ pub fn ended(rt: &HostRuntime, end: Result<Value, Fault>) -> ExitCode {
     ExitCode::from(status)
 }
 
-fn run(rt: &HostRuntime) -> Result<Value, Fault> {
-    let mut settings = Settings::of_argument(rt)?;
+fn run(rt: &HostRuntime, path: &str) -> Result<Value, Fault> {
+    let mut settings = Settings::read(rt, path)?;
     let mut http_client = connected(rt, &mut settings)?;
     ask(&mut settings, &mut http_client)
 }

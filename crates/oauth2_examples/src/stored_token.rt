@@ -1,9 +1,9 @@
 //! A service that keeps its token over a restart. It starts with the token that it stored, requests
 //! another when that one is about to expire, and stores its token before it ends. After a failed
-//! request it makes no other one for 30 seconds, or longer if the server asks for that. Standard
-//! input and output are its connection, as in `over_connection`:
+//! request it makes no other one for 30 seconds, or longer if the server asks for that. Standard input and output are its connection, as
+//! in `over_connection`:
 //!
-//!     socat OPENSSL:as.example:443 EXEC:'oauth2_programs stored_token settings.json'
+//!     socat OPENSSL:as.example:443 EXEC:'oauth2_examples stored_token settings.json'
 //!
 //! It needs the token for each of the `jobs` of its settings, and prints the token or the error for
 //! each.
@@ -38,13 +38,13 @@ const WAIT_SECONDS: u64 = 30;
 // If a server that is busy asks for a longer wait, no other request is made for at most this long.
 const MOST_WAIT_SECONDS: u64 = 600;
 
-/// Does the jobs that the settings file names, and prints a list with their results.
-pub fn main(rt: HostRuntime) -> ExitCode {
-    ended(&rt, run(&rt))
+/// Does the jobs that the settings file at `path` names, and prints a list with their results.
+pub fn stored_token(rt: &HostRuntime, path: &str) -> ExitCode {
+    ended(rt, run(rt, path))
 }
 
-fn run(rt: &HostRuntime) -> Result<Value, Fault> {
-    let mut settings = Settings::of_argument(rt)?;
+fn run(rt: &HostRuntime, path: &str) -> Result<Value, Fault> {
+    let mut settings = Settings::read(rt, path)?;
     let client = token_client(&mut settings)?;
     serve(rt, &mut settings, &client)
 }

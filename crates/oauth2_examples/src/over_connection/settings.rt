@@ -35,17 +35,8 @@ pub struct Settings<'a> {
 }
 
 impl<'a> Settings<'a> {
-    /// Reads the file that the second argument names, or `settings.json` if there is none.
-    pub fn of_argument(rt: &'a HostRuntime) -> Result<Settings<'a>, Fault> {
-        let Ok(mut arguments) = env::args(rt) else {
-            return Err(Fault::unreadable(rt.alloc(), "arguments"));
-        };
-        let path = arguments.nth(2);
-        Settings::read(rt, path.as_deref().unwrap_or("settings.json"))
-    }
-
-    // Reads a file, which has to hold one JSON object.
-    fn read(rt: &'a HostRuntime, path: &str) -> Result<Settings<'a>, Fault> {
+    /// Reads a file, which has to hold one JSON object.
+    pub fn read(rt: &'a HostRuntime, path: &str) -> Result<Settings<'a>, Fault> {
         let alloc = rt.alloc();
         let Ok(text) = fs::read_to_string(rt, path) else {
             return Err(Fault::unreadable(alloc, path));

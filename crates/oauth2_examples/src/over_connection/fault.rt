@@ -1,7 +1,7 @@
 //! Why a run has no answer, and what it prints then.
 
 ghost use Rattle.std.specs.Prelude.{◌≡◌};
-ghost use Rattle.oauth2_programs.specs.Fault.{fault_exit_status};
+ghost use Rattle.oauth2_examples.specs.Fault.{fault_exit_status};
 
 use oauth2::{ParseCause, ReadError, RequestTokenError, ToJson, WriteError};
 use serde_json::{Value, json};
