@@ -1,6 +1,0 @@
-//! Tests of logins with OpenID Connect.
-
-mod ends;
-mod providers;
-mod starts;
-mod support;
